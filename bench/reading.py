@@ -1,0 +1,90 @@
+#!/usr/bin/env python3
+"""Times how the built program reads class files of three sizes a factor of ten apart.
+
+The files are class files that aren't thin, so the program reads them whole and answers 14. Prints for
+each kind and size the bytes, and the time a byte, net of the time of an empty program, as the least of
+several runs. Usage: bench/reading.py (the program is built by ./cjvm).
+"""
+import os
+import struct
+import tempfile
+
+from program import least_time, need_program
+
+LIMIT = 1_048_576
+
+
+def text(word):
+    return b"\x01" + struct.pack(">H", len(word)) + word
+
+
+def class_file(texts, fields=(), methods=()):
+    """A class file whose texts have the indices from 5 on."""
+    pool = [text(b"A"), b"\x07\x00\x01", text(b"Code"), text(b"I")] + [text(word) for word in texts]
+    parts = [b"\xca\xfe\xba\xbe\x00\x00\x00\x2e", struct.pack(">H", len(pool) + 1), *pool]
+    parts.append(struct.pack(">HHHH", 0x21, 2, 0, 0))
+    for members in (fields, methods):
+        parts.append(struct.pack(">H", len(members)))
+        parts.extend(members)
+    parts.append(b"\x00\x00")
+    return b"".join(parts)
+
+
+def method(name, desc, code):
+    contents = struct.pack(">HHI", 2, 2, len(code)) + code + bytes(4)
+    return struct.pack(">HHHHHI", 9, name, desc, 1, 3, len(contents)) + contents
+
+
+def ordinary(count):
+    """Methods of 40 bytes of code, with names as compilers' users give them."""
+    names = [b"()V"] + [b"method%d" % i for i in range(count)]
+    return class_file(names, methods=[method(6 + i, 5, bytes(39) + b"\xb1") for i in range(count)])
+
+
+def texts(count):
+    return class_file([b"%05x" % i for i in range(count)])
+
+
+def fields(count):
+    names = [b"%04x" % i for i in range(count)]
+    return class_file(names, fields=[struct.pack(">HHHH", 1, 5 + i, 4, 0) for i in range(count)])
+
+
+def short_methods(count):
+    names = [b"()V"] + [b"%04x" % i for i in range(count)]
+    return class_file(names, methods=[method(6 + i, 5, b"\xb1") for i in range(count)])
+
+
+def long_code(size):
+    return class_file([b"()V", b"m"], methods=[method(6, 5, bytes(size - 1) + b"\xb1")])
+
+
+KINDS = (
+    ("methods of 40 bytes", ordinary, (120, 1200, 12000)),
+    ("a pool of short texts", texts, (650, 6500, 65000)),
+    ("fields of distinct names", fields, (600, 6000, 60000)),
+    ("methods of one byte", short_methods, (280, 2800, 28000)),
+    ("one method's code", long_code, (655, 6553, 65535)),
+)
+
+
+def main():
+    need_program()
+    with tempfile.TemporaryDirectory() as folder:
+        path = os.path.join(folder, "A.class")
+        with open(path, "wb") as out:
+            out.write(b"")
+        empty = least_time(path, 3)
+        print(f"an empty file: {empty * 1000:.2f} ms")
+        for name, make, sizes in KINDS:
+            for size in sizes:
+                file = make(size)
+                assert len(file) <= LIMIT, (name, len(file))
+                with open(path, "wb") as out:
+                    out.write(file)
+                took = least_time(path, 14)
+                net = max(took - empty, 0)
+                print(f"{name:25} {len(file):8} bytes: {took * 1000:7.2f} ms, {net / len(file) * 1e9:6.1f} ns a byte")
+
+
+main()

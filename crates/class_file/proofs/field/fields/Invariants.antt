@@ -1,0 +1,12 @@
+use Rattle.std.proofs.Common.{◌≡◌, ◌-◌}
+use Rattle.class_file.specs.Reading.{each_at, adding, listed_at}
+use Rattle.class_file.specs.Members.{field_keys}
+use Rattle.class_file.specs.Seen.{HasSeen}
+use Rattle.class_file.specs.MemberReading.{field_at}
+use Rattle.class_file.proofs.field.fields.Given as goal
+
+abbrev pub invariant-loop : goal.invariant-loop
+invariant-loop l = record {
+  seen : HasSeen l.texts l.seen (field_keys l.fields);
+  told : each_at (adding (field_at l.texts)) (l.count - l.counter) l.fields l.reader ≡ listed_at (field_at l.texts) l.fn.reader;
+}

@@ -1,0 +1,17 @@
+pub mod Thin
+pub mod ThinReading
+pub mod Place
+pub mod Reading
+pub mod PoolReading
+pub mod Links
+pub mod Texts
+pub mod Flags
+pub mod Members
+pub mod MemberReading
+pub mod Seen
+pub mod Known
+pub mod ClassReading
+pub mod Spelling
+pub mod Meaning
+pub mod Formed
+pub mod Refusals

@@ -1,0 +1,98 @@
+//! The code of methods.
+
+ghost use Rattle.std.specs.Prelude.{◌≡◌, List as Items, IfOk};
+ghost use Rattle.jvm_base.specs.declared.code_item.TableItem.{TableItem as Entry};
+ghost use Rattle.class_file.specs.Reading.{Gives, listed_at};
+ghost use Rattle.class_file.specs.MemberReading.{table_item_at, code_contents_at, code_at};
+
+use crate::attribute::{AttributeHead, other_attributes};
+use crate::error::ClassErr;
+use crate::reader::Reader;
+use crate::texts::Texts;
+use jvm_base::{CodeItem, List, NoMemory, TableItem};
+use std::alloc::Global;
+
+#[tactic(auto, unfolding(crate::specs::MemberReading::table_item_at))]
+fn table_item(reader: &mut Reader, texts: &Texts) -> Result<TableItem, ClassErr>
+    ensures { (earlier : Items Entry) → Gives (λ t. (t, reader.new)) result (table_item_at texts.now earlier reader.old) }
+{
+    let start = reader.u2()?;
+    let end = reader.u2()?;
+    let handler = reader.u2()?;
+    let class_at = reader.offset();
+    let class = reader.u2()?;
+    if class != 0 && !texts.is_class(class) {
+        return Err(ClassErr::ItemLink(class_at));
+    }
+    Ok(TableItem {
+        start,
+        end,
+        handler,
+        class,
+    })
+}
+
+fn table(alloc: Global, reader: &mut Reader, texts: &Texts) -> Result<List<TableItem>, ClassErr>
+    ensures { Gives (λ table. (table, reader.new)) result (listed_at (table_item_at texts.now) reader.old) }
+{
+    let count = reader.u2()?;
+    let mut table = List::new(alloc);
+    for _ in 0..count {
+        let item = table_item(reader, texts)?;
+        table.push(item)?;
+    }
+    Ok(table)
+}
+
+fn copied(alloc: Global, bytes: &[u8]) -> Result<List<u8>, NoMemory>
+    ensures { IfOk result (λ list. list ≡ bytes.now) }
+{
+    let mut items = Vec::new(alloc);
+    items.extend_from_slice(bytes)?;
+    Ok(List::from_vec(items))
+}
+
+#[tactic(auto, unfolding(crate::specs::MemberReading::code_contents_at))]
+fn code_contents(
+    alloc: Global,
+    reader: &mut Reader,
+    texts: &Texts,
+    method: u16,
+) -> Result<CodeItem, ClassErr>
+    ensures { Gives (λ c. (c, reader.new)) result (code_contents_at texts.now method reader.old) }
+{
+    let max_stack = reader.u2()?;
+    let max_locals = reader.u2()?;
+    let len = reader.u4()?;
+    if len == 0 || len > 65535 {
+        return Err(ClassErr::CodeLength(method));
+    }
+    let code = copied(alloc, reader.take(len)?)?;
+    let table = table(alloc, reader, texts)?;
+    other_attributes(reader, texts)?;
+    Ok(CodeItem {
+        max_stack,
+        max_locals,
+        code,
+        table,
+    })
+}
+
+/// Reads the contents of a Code attribute (JVMS2 4.7.3), that of the method of this number.
+#[tactic(auto, unfolding(crate::specs::MemberReading::code_at))]
+pub(crate) fn code(
+    alloc: Global,
+    reader: &mut Reader,
+    texts: &Texts,
+    method: u16,
+    attribute: AttributeHead,
+) -> Result<CodeItem, ClassErr>
+    ensures { Gives (λ c. (c, reader.new)) result (code_at texts.now method attribute reader.old) }
+{
+    let left = reader.left();
+    let code = code_contents(alloc, reader, texts, method)?;
+    if left != attribute.len as usize + reader.left() {
+        return Err(ClassErr::AttrLength(attribute.at));
+    }
+    Ok(code)
+}

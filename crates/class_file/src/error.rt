@@ -1,0 +1,65 @@
+//! Why a class file is refused.
+
+ghost use Rattle.std.specs.Prelude.{◌≡◌};
+ghost use Rattle.class_file.specs.declared.error.ClassErr.TheVariants.{NoMemory as OutOfMemory};
+
+use jvm_base::NoMemory;
+use std::alloc::{AllocError, AllocFailed};
+
+/// The first refusal of a file that is read from front to back. Offsets count bytes from 0, pool
+/// indices and methods are numbers of the file.
+#[derive(Clone, Copy, Debug, PartialEq, Eq)]
+pub enum ClassErr {
+    /// The first four bytes are others than a class file's (JVMS2 4.1).
+    Magic,
+    /// The major and the minor version: major isn't 45 to 48, or is above 45 with a minor one.
+    Version(u16, u16),
+    /// The next field ends past the end of the file, which has this length.
+    Cut(u64),
+    /// The tag at this index is none (JVMS2 4.4), or its item takes a second index that isn't there.
+    PoolTag(u16),
+    /// The text at this index isn't modified UTF-8 (JVMS2 4.4.7).
+    PoolText(u16),
+    /// The lowest index of an item that names an item of another kind, or a text of no use there.
+    PoolLink(u16),
+    /// The number at this offset isn't the index of an item of the needed kind.
+    ItemLink(u64),
+    /// The flags at this offset contradict each other (JVMS2 4.1, 4.5, 4.6).
+    Flags(u64),
+    /// The length at this offset isn't what the contents of its attribute took.
+    AttrLength(u64),
+    /// The code of this method is empty or longer than 65,535 bytes (JVMS2 4.8.1).
+    CodeLength(u16),
+    /// This method has a number of Code attributes that its flags don't allow (JVMS2 4.7.3).
+    CodeCount(u16),
+    /// The field or method at this offset has the name and descriptor of an earlier one.
+    Twice(u64),
+    /// Bytes follow the class file, the first of them at this offset.
+    Extra(u64),
+    /// No memory was left.
+    NoMemory,
+}
+
+impl From<NoMemory> for ClassErr {
+    ghost from_gives = { λ _ e. e ≡ OutOfMemory };
+
+    fn from(_error: NoMemory) -> ClassErr {
+        ClassErr::NoMemory
+    }
+}
+
+impl From<AllocError> for ClassErr {
+    ghost from_gives = { λ _ e. e ≡ OutOfMemory };
+
+    fn from(_error: AllocError) -> ClassErr {
+        ClassErr::NoMemory
+    }
+}
+
+impl<T: Drop> From<AllocFailed<T>> for ClassErr {
+    ghost from_gives = { λ _ e. e ≡ OutOfMemory };
+
+    fn from(_error: AllocFailed<T>) -> ClassErr {
+        ClassErr::NoMemory
+    }
+}

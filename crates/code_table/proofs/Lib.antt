@@ -1,0 +1,10 @@
+pub mod Acceptance
+pub mod Binding
+pub mod Firsts
+pub mod Flags
+pub mod ReadAt
+pub mod Refusals
+pub mod Sequencing
+pub mod SwitchLoops
+pub mod Targeting
+pub mod Walk

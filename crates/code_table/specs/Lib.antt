@@ -1,0 +1,12 @@
+pub mod Accepted
+pub mod Decoded
+pub mod Fixed
+pub mod Instructions
+pub mod Items
+pub mod Members
+pub mod Numbers
+pub mod Opcodes
+pub mod Results
+pub mod Sequences
+pub mod Switches
+pub mod Targets

@@ -1,0 +1,85 @@
+//! Items of the pool, as instructions need them.
+
+ghost use Rattle.std.specs.Prelude.{◌≡◌, slice_get};
+ghost use Rattle.std.specs.Option.{option_copied};
+ghost use Rattle.code_table.specs.Items.{text_at, class_at, class_dimensions, dimensions, pair_text, field_text, method_text, interface_method_text};
+
+use jvm_base::{Pool, PoolItem, Units};
+
+/// The text at an index.
+fn text_at<'a>(pool: &'a Pool, at: u16) -> Option<&'a Units>
+    ensures { option_copied result ≡ text_at pool.now at }
+{
+    match pool.get(at as usize) {
+        Some(PoolItem::Utf8(text)) => Some(text),
+        _ => None,
+    }
+}
+
+/// The index of the name of the class at an index.
+pub(crate) fn class_at(pool: &Pool, at: u16) -> Option<u16>
+    ensures { result ≡ class_at pool.now at }
+{
+    match pool.get(at as usize) {
+        Some(PoolItem::Class(name)) => Some(*name),
+        _ => None,
+    }
+}
+
+/// The dimensions of the class that has this name.
+fn dimensions(name: &Units) -> usize
+    ensures { result ≡ dimensions name.now }
+{
+    name.as_slice()
+        .iter()
+        .take_while(|unit| **unit == 91)
+        .count()
+}
+
+/// The dimensions of the class at an index; `None` where no class with a name is there.
+pub(crate) fn class_dimensions(pool: &Pool, at: u16) -> Option<usize>
+    ensures { result ≡ class_dimensions pool.now at }
+{
+    let name = class_at(pool, at)?;
+    Some(dimensions(text_at(pool, name)?))
+}
+
+/// The text of the descriptor of the name and descriptor at an index.
+fn pair_text<'a>(pool: &'a Pool, at: u16) -> Option<&'a Units>
+    ensures { option_copied result ≡ pair_text pool.now at }
+{
+    match pool.get(at as usize) {
+        Some(PoolItem::NameAndKind { desc, .. }) => text_at(pool, *desc),
+        _ => None,
+    }
+}
+
+/// The text of the descriptor of the field at an index.
+pub(crate) fn field_text<'a>(pool: &'a Pool, at: u16) -> Option<&'a Units>
+    ensures { option_copied result ≡ field_text pool.now at }
+{
+    match pool.get(at as usize) {
+        Some(PoolItem::Field { pair, .. }) => pair_text(pool, *pair),
+        _ => None,
+    }
+}
+
+/// The text of the descriptor of the method at an index.
+pub(crate) fn method_text<'a>(pool: &'a Pool, at: u16) -> Option<&'a Units>
+    ensures { option_copied result ≡ method_text pool.now at }
+{
+    match pool.get(at as usize) {
+        Some(PoolItem::Method { pair, .. }) => pair_text(pool, *pair),
+        _ => None,
+    }
+}
+
+/// The text of the descriptor of the interface method at an index.
+pub(crate) fn interface_method_text<'a>(pool: &'a Pool, at: u16) -> Option<&'a Units>
+    ensures { option_copied result ≡ interface_method_text pool.now at }
+{
+    match pool.get(at as usize) {
+        Some(PoolItem::InterfaceMethod { pair, .. }) => pair_text(pool, *pair),
+        _ => None,
+    }
+}

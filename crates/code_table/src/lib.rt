@@ -1,0 +1,24 @@
+//! Code of methods: from its bytes to instructions at addresses, or the first reason against it.
+#![tactic(auto)]
+
+mod bytes;
+mod code;
+mod decode;
+mod error;
+mod fixed;
+mod instruction;
+mod items;
+mod members;
+mod op;
+mod opcode;
+mod sequence;
+mod switches;
+mod target;
+
+pub use code::{Code, Placed};
+pub use decode::{decode_code, one_answer, one_cover, one_instruction, target_is_sum};
+pub use error::CodeErr;
+pub use op::Op;
+
+#[cfg(test)]
+mod tests;

@@ -1,0 +1,11 @@
+pub mod NameLaws
+pub mod Tops
+pub mod Args
+pub mod Descs
+pub mod Methods
+pub mod Options
+pub mod Places
+pub mod Readers
+pub mod TextLoop
+pub mod Texts
+pub mod UnitParts

@@ -1,0 +1,11 @@
+pub mod Descriptors
+pub mod Lends
+pub mod Maps
+pub mod Names
+pub mod Reads
+pub mod SeenDescs
+pub mod Stack
+pub mod Text
+pub mod Tops
+pub mod Units
+pub mod Words

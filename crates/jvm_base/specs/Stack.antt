@@ -1,0 +1,7 @@
+-- Operands, the newest first, and how many there may be.
+use Rattle.std.specs.Prelude.{ℕ, List}
+use Rattle.jvm_base.specs.declared.value.Value.{Value}
+
+pub record Stack : Type 0 where
+  pub values : List Value
+  pub room : ℕ

@@ -1,0 +1,43 @@
+-- The levels of a thread, the top one first, as they change at the top.
+use Rattle.std.specs.Prelude.{ℕ, ◌+◌, ◌<◌, ◌≤◌, List, [], ◌∷◌, ◌++◌, drop, length, Option}
+use Rattle.std.specs.Option.{option_to_list}
+use Rattle.jvm_base.specs.declared.value.Value.{Value}
+use Rattle.jvm_base.specs.declared.frame.Frame.{Frame}
+use Rattle.jvm_base.specs.declared.frame.Level.{Level}
+use Rattle.jvm_base.specs.declared.frame.Level.TheVariants.{Code, Init}
+
+-- the levels below the top one
+abbrev pub below : List Level → List Level
+below [] = []
+below (l ∷ ls) = ls
+
+-- the top frame is replaced
+abbrev pub with_top : Frame → List Level → List Level
+with_top f [] = []
+with_top f (l ∷ ls) = Code f ∷ ls
+
+-- ---- an instruction is answered
+
+-- the frame has the operands that are taken, and room for an answer
+pub record FrameTakes (takes : ℕ) (f : Frame) : Type 0 where
+  pub enough : takes ≤ length f.stack.values
+  pub room : length f.stack.values < f.stack.room + takes
+
+abbrev pub frame_answered : ℕ → ℕ → Option Value → Frame → Frame
+frame_answered next takes value f = record f { at = next; stack = record { values = option_to_list value ++ drop takes f.stack.values; room = f.stack.room } }
+
+abbrev pub LevelTakes : ℕ → Level → Type 0
+LevelTakes takes (Code f) = FrameTakes takes f
+LevelTakes takes (Init c b) = ⊥
+
+abbrev pub level_answered : ℕ → ℕ → Option Value → Level → Level
+level_answered next takes value (Code f) = Code (frame_answered next takes value f)
+level_answered next takes value (Init c b) = Init c b
+
+abbrev pub TopTakes : ℕ → List Level → Type 0
+TopTakes takes [] = ⊥
+TopTakes takes (l ∷ ls) = LevelTakes takes l
+
+abbrev pub top_answered : ℕ → ℕ → Option Value → List Level → List Level
+top_answered next takes value [] = []
+top_answered next takes value (l ∷ ls) = level_answered next takes value l ∷ ls

@@ -1,0 +1,6 @@
+pub mod Answered
+pub mod Gains
+pub mod LoadLemmas
+pub mod RunLoop
+pub mod Statuses
+pub mod WordLemmas

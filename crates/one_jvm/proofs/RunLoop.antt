@@ -1,0 +1,98 @@
+-- The loop of a run.
+use Rattle.std.proofs.Common.{◌≡◌, ℕ, ◌+◌, ◌-◌, ◌<◌, ◌≤◌, List, [], ◌∷◌, ◌++◌, length, take, Option, Some, None, Result, Ok, Err, sym, ap, subst, ◌∙◌, ⊎_elim, arith}
+use Rattle.std.specs.Prelude.{OnOk}
+use Rattle.std.specs.Io.KnownBytes.{Appends}
+use Rattle.class_file.specs.declared.thin.ThinCode.{ThinCode}
+use Rattle.class_file.specs.Thin.{IsThinCode}
+use Rattle.jvm_base.specs.declared.memory.NoMemory.{NoMemory}
+use Rattle.one_machine.specs.State.{State}
+use Rattle.one_machine.specs.declared.state.Choice.{Choice}
+use Rattle.one_machine.specs.Step.{step}
+use Rattle.one_machine.specs.Sound.{IsSound}
+use Rattle.one_machine.specs.Acts.{steps_of}
+use Rattle.one_machine.specs.Runs.{LeadsTo, end_of}
+use Rattle.std.proofs.lemmas.List.{length-append}
+use Rattle.std.proofs.Math.Seq.{take-append-add}
+use Rattle.one_machine.specs.declared.state.End.TheVariants.{Going}
+use Rattle.one_machine.specs.declared.state.Reason.{Reason}
+use Rattle.one_machine.specs.declared.state.StepErr.{StepErr}
+use Rattle.one_machine.specs.declared.state.StepErr.TheVariants.{NotEnabled}
+use Rattle.one_machine.specs.Refusals.{Explains}
+use Rattle.one_machine.specs.Start.{start}
+use Rattle.one_machine.proofs.RunLaws.{leads_none, leads_more}
+use Rattle.one_machine.proofs.Reasons.{never_dead, no_uncaught, few_steps}
+use Rattle.one_jvm.specs.Causes.{Rose}
+use Rattle.one_jvm.specs.Runs.{IsWhole, IsPart}
+use Rattle.one_jvm.specs.declared.running.Run.{Run}
+use Rattle.one_jvm.specs.RunSteps.{IsRunOf, Writes, Breaks}
+use Rattle.one_jvm.proofs.Gains.{appends_none, appends_more}
+
+-- what holds each time the loop begins
+pub record GoesOn (code : ThinCode) (so_far : Run) (before now : Option (List ℕ)) (faults_before faults : ℕ) : Type 0 where
+  pub run : IsRunOf code so_far
+  pub written : so_far.written ≡ length so_far.machine.output
+  pub gained : Appends before now so_far.machine.output
+  pub later : faults_before ≤ faults
+
+abbrev a_run : State → List Choice → ℕ → Run
+a_run machine order written = record { machine = machine; order = order; written = written }
+
+-- one step more
+pub more : (code : ThinCode) (run : Run) (m : State) (order : List Choice) (c : Choice) (r : Result (Unit {0}) NoMemory) → IsRunOf code run → step code run.machine c ≡ Some m → IsSound code m → OnOk r (order ≡ run.order ++ c ∷ []) → OnOk r (IsRunOf code (a_run m order run.written))
+more code run m order c (Ok u) h s sound e = record { sound = sound; leads = subst (λ (o : List Choice). LeadsTo code o m) (sym e) (leads_more code run.machine m c run.order h.leads s) }
+more code run m order c (Err x) h s sound e = tt
+
+-- the loop begins
+pub begins : (code : ThinCode) (m : State) (order : List Choice) (held : Option (List ℕ)) (faults : ℕ) → m ≡ start → order ≡ [] → IsSound code m → GoesOn code (a_run m order 0) held held faults faults
+unfolding start
+begins code m order held faults e n s = record {
+  run = record { sound = s; leads = subst (λ (o : List Choice). LeadsTo code o m) (sym n) (subst (λ (x : State). LeadsTo code [] x) (sym e) (leads_none code)) };
+  written = ap (λ (x : State). length x.output) (sym e);
+  gained = subst (λ (x : State). Appends held held x.output) (sym e) (appends_none held);
+  later = omega arith;
+}
+
+-- a turn
+pub turned : (code : ThinCode) (old new : Run) (before mid now : Option (List ℕ)) (f g h : ℕ) → GoesOn code old before mid f g → (Writes code old new mid now × (g ≤ h)) → GoesOn code new before now f h
+turned code old new before mid now f g h o w = record {
+  run = w.0.run;
+  written = w.0.written;
+  gained = subst (λ (bytes : List ℕ). Appends before now bytes) (sym w.0.output) (appends_more before mid now old.machine.output w.0.printed o.gained w.0.gained);
+  later = omega (arith, o.later, w.1);
+}
+
+-- a turn whose write failed
+pub broken : (code : ThinCode) (old new : Run) (before mid now : Option (List ℕ)) (f g h : ℕ) → GoesOn code old before mid f g → (Breaks code old new mid now × Rose g h) → IsPart code new.order before now × Rose f h
+broken code old new before mid now f g h o b =
+    let out : List ℕ = old.machine.output in
+    let front : take (length old.machine.output + b.0.count) new.machine.output ≡ old.machine.output ++ take b.0.count b.0.printed = ap (take (length old.machine.output + b.0.count)) b.0.output ∙ take-append-add old.machine.output b.0.printed b.0.count in (
+      record {
+        last = new.machine;
+        leads = b.0.run.leads;
+        count = length old.machine.output + b.0.count;
+        within = omega (arith, b.0.within, ap length b.0.output, length-append old.machine.output b.0.printed);
+        written = subst (λ (bytes : List ℕ). Appends before now bytes) (sym front) (appends_more before mid now old.machine.output (take b.0.count b.0.printed) o.gained b.0.gained);
+      },
+      omega (arith, b.1, o.later),
+    )
+
+-- the loop ends
+pub whole : (code : ThinCode) (run : Run) (before now : Option (List ℕ)) (f h : ℕ) → IsThinCode code → GoesOn code run before now f h → (end_of code run.machine ≡ Going → ⊥) → IsWhole code run.order before now
+whole code run before now f h t o n = record {
+  last = run.machine;
+  leads = o.run.leads;
+  ended = ⊎_elim (λ a. a) (λ g. absurd (n g)) (never_dead code run.machine t o.run.sound);
+  caught = no_uncaught code run.machine o.run.sound;
+  written = o.gained;
+}
+
+-- steps get fewer
+pub fewer : (code : ThinCode) (old new : Run) → IsRunOf code new → steps_of old.machine < steps_of new.machine → length code.ops + 4 - steps_of new.machine < length code.ops + 4 - steps_of old.machine
+fewer code old new r lt = omega (arith, few_steps code new.machine r.sound)
+
+-- a step that has no reason against it isn't refused for one
+pub not_refused : (e : StepErr) (why : Reason) (reason : Option Reason) → e ≡ NotEnabled why → Explains e reason → reason ≡ None → ⊥
+not_refused e why reason is x n =
+    let h : reason ≡ Some why = subst (λ (k : StepErr). Explains k reason) is x in
+    let q : None ≡ Some why = sym n ∙ h in
+    absurd cc

@@ -1,0 +1,13 @@
+use Rattle.one_jvm.proofs.report.write_refusal.Goals as goal
+
+pub returns-in-Usage-clause-bytes : goal.returns-in-Usage-clause-bytes
+returns-in-Usage-clause-bytes g c = rw c.in-Usage.is c.write_all.ensures.bytes
+
+pub returns-in-NoFile-clause-bytes : goal.returns-in-NoFile-clause-bytes
+returns-in-NoFile-clause-bytes g c = rw (c.in-NoFile.is, ← c.as_bytes-name.ensures.value) c.write_line.ensures.bytes
+
+pub returns-in-WriteFault-clause-bytes : goal.returns-in-WriteFault-clause-bytes
+returns-in-WriteFault-clause-bytes g c = rw c.in-WriteFault.is c.write_all-in-WriteFault.ensures.bytes
+
+pub returns-in-NotYet-clause-bytes : goal.returns-in-NotYet-clause-bytes
+returns-in-NotYet-clause-bytes g c = rw c.in-NotYet.is c.write_all-in-NotYet.ensures.bytes

@@ -1,0 +1,19 @@
+-- The words of a call.
+use Rattle.std.specs.Prelude.{◌≡◌, ℕ, Bool, false, ◌==◌, codes, List, [], ◌∷◌}
+
+-- a word of two or more characters that begins with `-` is an option's, and no file's
+abbrev pub is_option : List ℕ → Bool
+is_option (c ∷ d ∷ cs) = c == 45
+is_option _ = false
+
+-- `run FILE`
+abbrev pub IsRun : List (List ℕ) → List ℕ → Type 0
+IsRun words name = (words ≡ codes "run" ∷ name ∷ []) × (is_option name ≡ false)
+
+abbrev pub IsNoRun : List (List ℕ) → Type 0
+IsNoRun words = (name : List ℕ) → ¬ IsRun words name
+
+-- the second word, which names the file
+abbrev pub name_of : List (List ℕ) → List ℕ
+name_of (command ∷ name ∷ words) = name
+name_of _ = []

@@ -1,0 +1,13 @@
+//! The top call: words, files and sinks of the caller, and a status.
+#![tactic(auto)]
+
+mod loading;
+mod outcome;
+pub mod outside;
+mod report;
+mod running;
+mod top;
+mod words;
+
+pub use outcome::{Outcome, Refusal, Stop};
+pub use top::cjvm;

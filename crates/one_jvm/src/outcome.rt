@@ -1,0 +1,65 @@
+//! What a call answers.
+
+ghost use Rattle.std.specs.Prelude.{◌≡◌};
+ghost use Rattle.one_jvm.specs.Outcomes.{status_of};
+
+use class_file::ClassErr;
+use one_machine::Order;
+
+/// How a run ended: every thread has ended and none left an exception uncaught; a write of the
+/// program's output failed; no memory was left.
+#[derive(Clone, Copy, Debug, PartialEq, Eq)]
+pub enum Stop {
+    Done,
+    WriteFault,
+    NoMemory,
+}
+
+/// Why a call didn't end with status 0. A file is named by its place, from 0, among the words that
+/// name files.
+#[derive(Clone, Copy, Debug, PartialEq, Eq)]
+pub enum Refusal {
+    /// The words are none of a command's. Status 2.
+    Usage,
+    /// A file is no class file, and why. Status 3.
+    File { file: u32, why: ClassErr },
+    /// There is no such file. Status 4.
+    NoFile(u32),
+    /// A file could not be read. Status 5.
+    ReadFault(u32),
+    /// A write failed. Status 6.
+    WriteFault,
+    /// A file is longer than a class file may be. Status 11.
+    TooLong(u32),
+    /// The file is a class file that isn't run yet. Status 14.
+    NotYet,
+    /// No memory was left. Status 20.
+    NoMemory,
+}
+
+/// What a call answers: a status for the caller's process; the order of all steps of the run, empty
+/// where none was begun; how the run ended, where one was begun; and what was refused, if anything.
+#[derive(Debug, Drop)]
+pub struct Outcome {
+    pub status: u8,
+    pub order: Order,
+    pub stop: Option<Stop>,
+    pub refusal: Option<Refusal>,
+}
+
+/// The status of an outcome, by what was refused.
+pub(crate) fn status_of(refusal: Option<Refusal>) -> u8
+    ensures { result ≡ status_of refusal }
+{
+    match refusal {
+        None => 0,
+        Some(Refusal::Usage) => 2,
+        Some(Refusal::File { .. }) => 3,
+        Some(Refusal::NoFile(_)) => 4,
+        Some(Refusal::ReadFault(_)) => 5,
+        Some(Refusal::WriteFault) => 6,
+        Some(Refusal::TooLong(_)) => 11,
+        Some(Refusal::NotYet) => 14,
+        Some(Refusal::NoMemory) => 20,
+    }
+}

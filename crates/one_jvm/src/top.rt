@@ -1,0 +1,123 @@
+//! The top call.
+
+ghost use Rattle.std.specs.Prelude.{◌≡◌, ◌↔◌, ◌⊎◌, [], ◌∷◌, Some, None, map, string_bytes};
+ghost use Rattle.one_jvm.specs.Outcomes.{status_of};
+ghost use Rattle.one_jvm.specs.Answers.{Because, Ran, Agrees, the_faults, refusal_of, IfTold, Exactly, LacksFile, HasLongFile, HasOtherFile, HasRefusedFile, HasThinFile, IsClosed, Reports};
+ghost use Rattle.one_jvm.specs.Causes.{Rose};
+ghost use Rattle.one_jvm.specs.Words.{IsNoRun};
+
+use crate::loading::load;
+use crate::outcome::{Outcome, Refusal, Stop, status_of};
+use crate::outside::{Failed, Shelf, Sink};
+use crate::report::write_refusal;
+use crate::running::run_program;
+use crate::words::{name_of, run_file};
+use one_machine::Order;
+use std::alloc::Global;
+
+/// What a call answers, faults of standard error aside.
+#[derive(Drop)]
+struct Verdict {
+    order: Order,
+    stop: Option<Stop>,
+    refusal: Option<Refusal>,
+}
+
+/// The refusal of a call whose run ended so.
+fn refusal_of(stop: Stop) -> Option<Refusal>
+    ensures { result ≡ refusal_of stop }
+{
+    match stop {
+        Stop::Done => None,
+        Stop::WriteFault => Some(Refusal::WriteFault),
+        Stop::NoMemory => Some(Refusal::NoMemory),
+    }
+}
+
+/// The verdict of a call that begins no run.
+fn refused(alloc: Global, refusal: Refusal) -> Verdict
+    ensures { result ≡ record { order = []; stop = None; refusal = Some refusal } }
+{
+    Verdict {
+        order: Order::new(alloc),
+        stop: None,
+        refusal: Some(refusal),
+    }
+}
+
+/// Reads the words and the file, and runs the program.
+fn judge<S: Shelf, O: Sink>(alloc: Global, words: &[String], shelf: &mut S, out: &mut O) -> Verdict
+    ensures cause { Because (map string_bytes words.now) (S.files shelf.old) (the_faults (S.faults shelf.old) (S.faults shelf.new) (O.faults out.old) (O.faults out.new)) result.refusal }
+    ensures run { Ran (map string_bytes words.now) (S.files shelf.old) (O.held out.old) (O.held out.new) (O.faults out.old) (O.faults out.new) result.order result.stop }
+    ensures agrees { Agrees result.stop result.refusal }
+{
+    let Some(name) = run_file(words) else {
+        return refused(alloc, Refusal::Usage);
+    };
+    match load(alloc, shelf, name) {
+        Ok(code) => {
+            let (order, stop) = run_program(alloc, &code, out);
+            Verdict {
+                order,
+                stop: Some(stop),
+                refusal: refusal_of(stop),
+            }
+        }
+        Err(refusal) => refused(alloc, refusal),
+    }
+}
+
+/// Reports a refusal. A fault of standard error hides it.
+fn close<E: Sink>(err: &mut E, name: &str, refusal: Option<Refusal>) -> Option<Refusal>
+    ensures closed { IsClosed name.now refusal (E.held err.old) (E.held err.new) (E.faults err.old) (E.faults err.new) result }
+    ensures silent { refusal ≡ None → result ≡ None }
+{
+    let refusal = refusal?;
+    match write_refusal(err, name, refusal) {
+        Ok(()) => Some(refusal),
+        Err(Failed) => Some(Refusal::WriteFault),
+    }
+}
+
+/// Does what the words say: `run FILE` reads a class file from the shelf, runs it, writes the
+/// program's output to `out` while it runs, and then a report to `err`, which is empty where the
+/// status is 0. `words` are those after the program's name. What a shelf or a sink holds is claimed
+/// only where it tells it.
+pub fn cjvm<S: Shelf, O: Sink, E: Sink>(
+    alloc: Global,
+    words: &[String],
+    shelf: &mut S,
+    out: &mut O,
+    err: &mut E,
+) -> Outcome
+    ensures status { result.status ≡ status_of result.refusal }
+
+    // Each status comes exactly with its cause, faults and want of memory aside.
+    ensures usage { Exactly result.status 2 (6 ∷ []) (IsNoRun (map string_bytes words.now)) }
+    ensures refused { IfTold (S.files shelf.old) (λ fs. Exactly result.status 3 (5 ∷ 6 ∷ 20 ∷ []) (HasRefusedFile fs (map string_bytes words.now))) }
+    ensures no_file { IfTold (S.files shelf.old) (λ fs. Exactly result.status 4 (5 ∷ 6 ∷ 20 ∷ []) (LacksFile fs (map string_bytes words.now))) }
+    ensures too_long { IfTold (S.files shelf.old) (λ fs. Exactly result.status 11 (5 ∷ 6 ∷ 20 ∷ []) (HasLongFile fs (map string_bytes words.now))) }
+    ensures not_yet { IfTold (S.files shelf.old) (λ fs. Exactly result.status 14 (5 ∷ 6 ∷ 20 ∷ []) (HasOtherFile fs (map string_bytes words.now))) }
+    ensures ended { IfTold (S.files shelf.old) (λ fs. Exactly result.status 0 (5 ∷ 6 ∷ 20 ∷ []) (HasThinFile fs (map string_bytes words.now))) }
+    ensures read_fault { result.status ≡ 5 → Rose (S.faults shelf.old) (S.faults shelf.new) }
+    ensures write_fault { result.status ≡ 6 → (Rose (O.faults out.old) (O.faults out.new)) ⊎ (Rose (E.faults err.old) (E.faults err.new)) }
+
+    // The order is a legal one of the file's program and whole, and `out` gained its output.
+    ensures done { (result.status ≡ 0) ↔ (result.stop ≡ Some Stop.Done) }
+    ensures run { Ran (map string_bytes words.now) (S.files shelf.old) (O.held out.old) (O.held out.new) (O.faults out.old) (O.faults out.new) result.order result.stop }
+
+    // `err` gained the report of what was refused, or a front of it where a write to it failed.
+    ensures report { Reports (map string_bytes words.now) (S.files shelf.old) (the_faults (S.faults shelf.old) (S.faults shelf.new) (O.faults out.old) (O.faults out.new)) (E.held err.old) (E.held err.new) (E.faults err.old) (E.faults err.new) result.stop result.refusal }
+{
+    let verdict = judge(alloc, words, shelf, out);
+    let refusal = close(err, name_of(words), verdict.refusal);
+    Outcome {
+        status: status_of(refusal),
+        order: verdict.order,
+        stop: verdict.stop,
+        refusal,
+    }
+}
+
+#[cfg(test)]
+mod tests;

@@ -1,0 +1,289 @@
+//! Calls over memory: what they answer, and what the streams hold.
+
+use crate::outside::{MemShelf, VecSink};
+use crate::{Outcome, Refusal, Stop, cjvm};
+use class_file::{ClassErr, HEAD};
+use std::alloc::{AllocError, Global};
+use std::test::Fail;
+
+/// The bytes of A.class behind its head: it prints 2 + 3.
+const TAIL: [u8; 28] = [
+    0, 0, 0, 0x16, 0, 3, 0, 1, 0, 0, 0, 0x0a, 0xb2, 0, 0x0d, 5, 6, 0x60, 0xb6, 0, 0x13, 0xb1, 0, 0,
+    0, 0, 0, 0,
+];
+
+/// What a call left.
+#[derive(Drop)]
+struct Left {
+    outcome: Outcome,
+    out: Vec<u8>,
+    err: Vec<u8>,
+}
+
+/// The calls that fail, by number, of the shelf, of standard output and of standard error.
+#[derive(Clone, Copy)]
+struct Fails {
+    shelf: u64,
+    out: u64,
+    err: u64,
+}
+
+const NO_FAILS: Fails = Fails {
+    shelf: 0,
+    out: 0,
+    err: 0,
+};
+
+fn file_of(alloc: Global, tail: &[u8]) -> Result<Vec<u8>, AllocError> {
+    let mut file = Vec::from_slice(alloc, HEAD.as_slice())?;
+    file.extend_from_slice(tail)?;
+    Ok(file)
+}
+
+/// Calls with these words, where the shelf has one file A.class.
+fn call(alloc: Global, words: &[&str], file: Vec<u8>, fails: Fails) -> Result<Left, Fail> {
+    let mut texts = Vec::new(alloc);
+    for word in words {
+        texts.push(String::from_str(alloc, word)?)?;
+    }
+    let mut files = Vec::new(alloc);
+    files.push((String::from_str(alloc, "A.class")?, file))?;
+    let mut shelf = MemShelf::new(files, Vec::from_slice(alloc, &[fails.shelf])?);
+    let mut out = VecSink::new(alloc, 1000, 3, Vec::from_slice(alloc, &[fails.out])?)?;
+    let mut err = VecSink::new(alloc, 1000, 5, Vec::from_slice(alloc, &[fails.err])?)?;
+    let outcome = cjvm(alloc, texts.as_slice(), &mut shelf, &mut out, &mut err);
+    Ok(Left {
+        outcome,
+        out: Vec::from_slice(alloc, out.bytes())?,
+        err: Vec::from_slice(alloc, err.bytes())?,
+    })
+}
+
+#[test]
+fn runs_the_first_file(rt: HostRuntime) -> Result<(), Fail> {
+    let alloc = rt.alloc();
+    let file = file_of(alloc, TAIL.as_slice())?;
+    let left = call(alloc, &["run", "A.class"], file, NO_FAILS)?;
+    assert_eq!(rt; left.outcome.status, 0);
+    assert_eq!(rt; left.outcome.stop, Some(Stop::Done));
+    assert_eq!(rt; left.outcome.refusal, None);
+    assert_eq!(rt; left.outcome.order.len(), 10);
+    assert_eq!(rt; left.out.as_slice(), b"5\n".as_slice());
+    assert_eq!(rt; left.err.as_slice(), b"".as_slice());
+
+    // The byte at 231 is the arithmetic: isub in place of iadd.
+    let mut tail = TAIL;
+    tail[17] = 0x64;
+    let left = call(
+        alloc,
+        &["run", "A.class"],
+        file_of(alloc, tail.as_slice())?,
+        NO_FAILS,
+    )?;
+    assert_eq!(rt; left.outcome.status, 0);
+    assert_eq!(rt; left.out.as_slice(), b"-1\n".as_slice());
+    Ok(())
+}
+
+#[test]
+fn refuses_by_name(rt: HostRuntime) -> Result<(), Fail> {
+    let alloc = rt.alloc();
+    let words: [(&[&str], u8, &[u8]); 8] = [
+        (&[], 2, b"cjvm: usage\n"),
+        (&["run"], 2, b"cjvm: usage\n"),
+        (&["check", "A.class"], 2, b"cjvm: usage\n"),
+        (&["run", "A.class", "A.class"], 2, b"cjvm: usage\n"),
+        (&["run", "-A"], 2, b"cjvm: usage\n"),
+        (&["run", "-"], 4, b"cjvm: no file -\n"),
+        (&["run", ""], 4, b"cjvm: no file \n"),
+        (&["run", "X.class"], 4, b"cjvm: no file X.class\n"),
+    ];
+    for (words, status, report) in words {
+        let file = file_of(alloc, TAIL.as_slice())?;
+        let left = call(alloc, words, file, NO_FAILS)?;
+        assert_eq!(rt; left.outcome.status, status, "words {words:?}");
+        assert_eq!(rt; left.err.as_slice(), report);
+        assert_eq!(rt; left.out.len(), 0);
+        assert_eq!(rt; left.outcome.stop, None);
+        assert_eq!(rt; left.outcome.order.len(), 0);
+    }
+    let long = vec![in alloc; 0u8; 1_048_577]?;
+    let left = call(alloc, &["run", "A.class"], long, NO_FAILS)?;
+    assert_eq!(rt; left.outcome.refusal, Some(Refusal::TooLong(0)));
+    assert_eq!(rt;
+        left.err.as_slice(),
+        b"cjvm: file too long A.class\n".as_slice()
+    );
+
+    let zeros = vec![in alloc; 0u8; 1_048_576]?;
+    let left = call(alloc, &["run", "A.class"], zeros, NO_FAILS)?;
+    assert_eq!(rt; left.outcome.status, 3);
+    assert_eq!(rt;
+        left.err.as_slice(),
+        b"cjvm: refused A.class magic\n".as_slice()
+    );
+    Ok(())
+}
+
+/// The first bytes of A.class.
+fn cut_file(alloc: Global, len: usize) -> Result<Vec<u8>, AllocError> {
+    let mut file = file_of(alloc, TAIL.as_slice())?;
+    file.truncate(len);
+    Ok(file)
+}
+
+#[test]
+fn refuses_cuts(rt: HostRuntime) -> Result<(), Fail> {
+    let alloc = rt.alloc();
+    for len in 0..242u32 {
+        let file = cut_file(alloc, len as usize)?;
+        let left = call(alloc, &["run", "A.class"], file, NO_FAILS)?;
+        let report = format!(in alloc; "cjvm: refused A.class cut {len}\n")?;
+        assert_eq!(rt; left.outcome.status, 3);
+        assert_eq!(rt;
+            left.outcome.refusal,
+            Some(Refusal::File {
+                file: 0,
+                why: ClassErr::Cut(u64::from(len))
+            })
+        );
+        assert_eq!(rt; left.err.as_slice(), report.as_bytes());
+    }
+    let mut longer = file_of(alloc, TAIL.as_slice())?;
+    longer.push(0)?;
+    let left = call(alloc, &["run", "A.class"], longer, NO_FAILS)?;
+    assert_eq!(rt;
+        left.err.as_slice(),
+        b"cjvm: refused A.class extra 242\n".as_slice()
+    );
+    Ok(())
+}
+
+/// A.class with another byte at a place.
+fn changed_file(alloc: Global, at: usize, byte: u8) -> Result<Vec<u8>, Fail> {
+    let mut file = file_of(alloc, TAIL.as_slice())?;
+    if let Some(place) = file.get_mut(at) {
+        *place = byte;
+    }
+    Ok(file)
+}
+
+#[test]
+fn refuses_changed_bytes(rt: HostRuntime) -> Result<(), Fail> {
+    let alloc = rt.alloc();
+    let rows: [(usize, u8, u8, &[u8]); 12] = [
+        (0, 0, 3, b"cjvm: refused A.class magic\n"),
+        (7, 0x31, 3, b"cjvm: refused A.class version 49.0\n"),
+        (10, 2, 3, b"cjvm: refused A.class pool tag 1\n"),
+        (13, 0, 3, b"cjvm: refused A.class pool text 1\n"),
+        (16, 2, 3, b"cjvm: refused A.class pool link 2\n"),
+        (193, 0x23, 3, b"cjvm: refused A.class flags 192\n"),
+        (195, 1, 3, b"cjvm: refused A.class item link 194\n"),
+        (197, 0, 14, b"cjvm: not yet\n"),
+        (213, 5, 3, b"cjvm: refused A.class code count 0\n"),
+        (
+            217,
+            0x15,
+            3,
+            b"cjvm: refused A.class attribute length 214\n",
+        ),
+        (225, 0, 3, b"cjvm: refused A.class code length 0\n"),
+        (241, 1, 3, b"cjvm: refused A.class cut 242\n"),
+    ];
+    for (at, byte, status, report) in rows {
+        let file = changed_file(alloc, at, byte)?;
+        let left = call(alloc, &["run", "A.class"], file, NO_FAILS)?;
+        assert_eq!(rt; left.outcome.status, status);
+        assert_eq!(rt; left.err.as_slice(), report);
+        assert_eq!(rt; left.out.len(), 0);
+    }
+    Ok(())
+}
+
+#[test]
+fn tells_faults(rt: HostRuntime) -> Result<(), Fail> {
+    let alloc = rt.alloc();
+    // Output comes in pieces of 3 bytes at most, reports in pieces of 5.
+    let faults: [(Fails, u8, &[u8], &[u8]); 4] = [
+        (
+            Fails {
+                shelf: 1,
+                out: 0,
+                err: 0,
+            },
+            5,
+            b"",
+            b"cjvm: read fault A.class\n",
+        ),
+        (
+            Fails {
+                shelf: 0,
+                out: 1,
+                err: 0,
+            },
+            6,
+            b"",
+            b"cjvm: write fault\n",
+        ),
+        (
+            Fails {
+                shelf: 1,
+                out: 0,
+                err: 1,
+            },
+            6,
+            b"",
+            b"",
+        ),
+        (
+            Fails {
+                shelf: 0,
+                out: 1,
+                err: 3,
+            },
+            6,
+            b"",
+            b"cjvm: writ",
+        ),
+    ];
+    for (fails, status, out, err) in faults {
+        let file = file_of(alloc, TAIL.as_slice())?;
+        let left = call(alloc, &["run", "A.class"], file, fails)?;
+        assert_eq!(rt; left.outcome.status, status);
+        assert_eq!(rt; left.out.as_slice(), out);
+        assert_eq!(rt; left.err.as_slice(), err);
+    }
+    Ok(())
+}
+
+/// A file whose code has 65,535 bytes: it adds 1 as often as fits, and prints the sum.
+fn longest_file(alloc: Global) -> Result<Vec<u8>, AllocError> {
+    let mut file = file_of(alloc, &[0, 1, 0, 11, 0, 3, 0, 1, 0, 0, 0xff, 0xff])?;
+    file.extend_from_slice(&[0xb2, 0, 0x0d, 16, 0])?;
+    for _ in 0..32763 {
+        file.extend_from_slice(&[4, 0x60])?;
+    }
+    file.extend_from_slice(&[0xb6, 0, 0x13, 0xb1, 0, 0, 0, 0, 0, 0])?;
+    Ok(file)
+}
+
+#[test]
+fn runs_the_longest_code(rt: HostRuntime) -> Result<(), Fail> {
+    let alloc = rt.alloc();
+    let left = call(alloc, &["run", "A.class"], longest_file(alloc)?, NO_FAILS)?;
+    assert_eq!(rt; left.outcome.status, 0);
+    assert_eq!(rt; left.outcome.order.len(), 65534);
+    assert_eq!(rt; left.out.as_slice(), b"32763\n".as_slice());
+
+    // Output in pieces of 3 bytes: its second write fails.
+    let second = Fails {
+        shelf: 0,
+        out: 2,
+        err: 0,
+    };
+    let left = call(alloc, &["run", "A.class"], longest_file(alloc)?, second)?;
+    assert_eq!(rt; left.outcome.status, 6);
+    assert_eq!(rt; left.outcome.stop, Some(Stop::WriteFault));
+    assert_eq!(rt; left.out.as_slice(), b"327".as_slice());
+    Ok(())
+}

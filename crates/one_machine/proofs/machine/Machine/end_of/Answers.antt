@@ -1,0 +1,12 @@
+use Rattle.std.proofs.Common.{sym, ap, ◌∙◌}
+use Rattle.std.specs.Prelude.{slice_get}
+use Rattle.one_machine.specs.State.{State}
+use Rattle.one_machine.specs.Refusals.{end_at}
+use Rattle.one_machine.proofs.Reasons.{end_is}
+use Rattle.one_machine.proofs.machine.Machine.end_of.Goals as goal
+
+pub returns : goal.returns
+returns c =
+    c.end.ensures
+    ∙ ap end_at (c.get.ensures ∙ ap (λ (m : State). slice_get m.threads 0) c.self.view_is)
+    ∙ sym (end_is c.args.code.now c.args.self.now c.requires.code c.requires.sound)

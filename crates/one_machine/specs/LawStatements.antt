@@ -1,0 +1,31 @@
+-- Laws of the definitions, each the contract of an empty function.
+use Rattle.std.specs.Prelude.{◌≡◌, ◌↔◌, pos, [], ◌∷◌, List, ℕ, Option, Some, None, IsNone, IsSome, replicate}
+use Rattle.jvm_base.specs.Words.{from}
+use Rattle.class_file.specs.declared.thin.ThinOp.TheVariants.{Push, Add, Stream, Print, Return}
+use Rattle.class_file.specs.declared.thin.ThinCode.{ThinCode}
+use Rattle.one_machine.specs.declared.state.Choice.{Choice}
+use Rattle.one_machine.specs.declared.state.End.{End}
+use Rattle.one_machine.specs.declared.state.End.TheVariants.{AllEnded}
+use Rattle.jvm_base.specs.declared.value.Uncaught.{Uncaught}
+use Rattle.one_machine.specs.State.{State}
+use Rattle.one_machine.specs.Start.{start}
+use Rattle.one_machine.specs.Step.{step, reason}
+use Rattle.one_machine.specs.Runs.{run, any_choice, end_of}
+
+abbrev pub StepOrReason : Type 0
+StepOrReason = (code : ThinCode) (m : State) (c : Choice) → IsSome (step code m c) ↔ IsNone (reason code m c)
+
+-- getstatic, iconst_2, iconst_3, iadd, println, return
+abbrev pub first_program : ThinCode
+first_program = record { max_stack = 3; max_locals = 1; ops = Stream ∷ Push (pos 2) ∷ Push (pos 3) ∷ Add ∷ Print ∷ Return ∷ [] }
+
+-- begin to initialise A, end it, call `main`, its six instructions, end of the thread
+abbrev pub ten_choices : List Choice
+ten_choices = replicate 10 (any_choice 0)
+
+-- what a run leaves: its output, how it ends, and what wasn't caught
+unfoldable pub outcome : ThinCode → List Choice → Option (List ℕ × End × List Uncaught)
+outcome code order = from None (λ m. Some (m.output, end_of code m, m.uncaught)) (run code start order)
+
+abbrev pub FirstProgramRuns : Type 0
+FirstProgramRuns = outcome first_program ten_choices ≡ Some (53 ∷ 10 ∷ [], AllEnded, [])

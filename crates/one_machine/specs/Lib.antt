@@ -1,0 +1,14 @@
+pub mod Acts
+pub mod Program
+pub mod State
+pub mod Requests
+pub mod Changes
+pub mod LawStatements
+pub mod Next
+pub mod Serve
+pub mod Complete
+pub mod Step
+pub mod Start
+pub mod Refusals
+pub mod Runs
+pub mod Sound
