@@ -1,5 +1,5 @@
 -- What a number's line writes.
-use Rattle.std.proofs.Common.{◌≡◌, ℕ, zero, suc, to_z, of_z, ◌<◌, ◌^◌, true, List, [], ◌∷◌, ◌++◌, get_or, ℤ, refl, sym, ap, ◌∙◌, arith}
+use Rattle.std.proofs.Common.{◌≡◌, ℕ, zero, suc, to_z, of_z, ◌<◌, ◌^◌, ◌==◌, true, false, List, [], ◌∷◌, ◌++◌, get_or, ℤ, refl, sym, ap, ◌∙◌, arith}
 use Rattle.std.specs.Prelude.{nat_lt, FitsSigned}
 use Rattle.std.specs.Fmt.{signed_decimal}
 use Rattle.std.specs.Int.{w32}
@@ -12,13 +12,19 @@ use Rattle.std.proofs.lemmas.Int.{ints, to_z-of_z}
 use Rattle.std.proofs.lemmas.Str.{IsAscii-append}
 use Rattle.one_machine.specs.Serve.{printed, printed_unit}
 
+one_unit : (u : ℕ) → u < 128 → printed_unit u ≡ u ∷ []
+one_unit zero lt = refl
+one_unit (suc n) lt =
+    let z : (suc n == 0) ≡ false = grind (arith, nat_tests) in
+    let p : nat_lt 0 (suc n) ≡ true = grind (arith, nat_tests) in
+    let t : nat_lt (suc n) 128 ≡ true = grind (arith, nat_tests) in
+    rw (z, p, t) refl
+
 -- a byte below 128 is the one byte of its unit
 pub printed-ascii : (us : List ℕ) → IsAscii us → printed us ≡ us
 printed-ascii [] h = refl
 printed-ascii (u ∷ us) h =
-    let lt : u < 128 = h 0 in
-    let t : nat_lt u 128 ≡ true = grind (arith, nat_tests) in
-    flat_map-cons printed_unit u us ∙ rw t (ap (λ (x : List ℕ). u ∷ x) (printed-ascii us (λ i. h (suc i))))
+    flat_map-cons printed_unit u us ∙ rw (one_unit u (h 0)) (ap (λ (x : List ℕ). u ∷ x) (printed-ascii us (λ i. h (suc i))))
 
 lf_ascii : IsAscii (10 ∷ [])
 lf_ascii i = elim i as (λ i. get_or (10 ∷ []) i 0 < 128) [ zero ↦ omega arith | suc k ↦ omega arith ]

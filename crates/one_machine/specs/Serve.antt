@@ -1,7 +1,9 @@
 -- How a request is served at its cell: its deed, or none where it isn't enabled. What thin programs
 -- don't ask isn't served yet.
-use Rattle.std.specs.Prelude.{ℕ, ◌+◌, ◌/◌, ◌%◌, ◌^◌, Bool, true, false, ◌==◌, ◌&&◌, ◌||◌, not, if◌then◌else◌, List, [], ◌∷◌, length, Option, Some, None, slice_get, nat_le, nat_lt, is_none, flat_map}
+use Rattle.std.specs.Prelude.{ℕ, ◌+◌, ◌^◌, Bool, true, ◌==◌, ◌&&◌, not, if◌then◌else◌, List, [], ◌∷◌, length, Option, Some, None, slice_get, nat_le, is_none, flat_map}
 use Rattle.jvm_base.specs.Names.{name_eq, named, no_name}
+use Rattle.std.specs.List.{list_any}
+use Rattle.jvm_base.specs.Text.{unit_bytes}
 use Rattle.jvm_base.specs.Words.{from}
 use Rattle.jvm_base.specs.declared.name.Name.{Name}
 use Rattle.jvm_base.specs.declared.value.Value.{Value}
@@ -35,12 +37,10 @@ abbrev pub ends : ℕ → Option Name → Deed
 ends t None = quiet None
 ends t (Some e) = changing (Lost (record { thread = t; class = e.class }) ∷ []) None
 
--- ---- output: a unit has the bit pattern of modified UTF-8, and unit 0 is one zero byte
+-- ---- output: a unit's bytes are those of modified UTF-8, but unit 0 is one zero byte
 
 abbrev pub printed_unit : ℕ → List ℕ
-printed_unit u = if nat_lt u 128 then u ∷ []
-    else (if nat_lt u 2048 then (192 + u / 64) ∷ (128 + u % 64) ∷ []
-    else (224 + u / 4096) ∷ (128 + u / 64 % 64) ∷ (128 + u % 64) ∷ [])
+printed_unit u = if u == 0 then 0 ∷ [] else unit_bytes u
 
 abbrev pub printed : List ℕ → List ℕ
 printed us = flat_map printed_unit us
@@ -57,13 +57,9 @@ serve t c _ _ = None
 
 -- ---- whether the choice's pick and name are those that the deed wants
 
-abbrev pub among : List ℕ → ℕ → Bool
-among [] n = false
-among (m ∷ ms) n = m == n || among ms n
-
 abbrev pub pick_fits : ℕ → List ℕ → Bool
 pick_fits pick [] = pick == 0
-pick_fits pick (w ∷ ws) = among (w ∷ ws) pick
+pick_fits pick (w ∷ ws) = list_any (λ t. t == pick) (w ∷ ws)
 
 abbrev pub all_new : Heap → ℕ → ℕ → List ℕ → Bool
 all_new heap node index [] = true
