@@ -9,30 +9,10 @@ import os
 import struct
 import tempfile
 
-from program import least_time, need_program
+from classes import class_file, method
+from program import CJVM, least_time, need_programs
 
 LIMIT = 1_048_576
-
-
-def text(word):
-    return b"\x01" + struct.pack(">H", len(word)) + word
-
-
-def class_file(texts, fields=(), methods=()):
-    """A class file whose texts have the indices from 5 on."""
-    pool = [text(b"A"), b"\x07\x00\x01", text(b"Code"), text(b"I")] + [text(word) for word in texts]
-    parts = [b"\xca\xfe\xba\xbe\x00\x00\x00\x2e", struct.pack(">H", len(pool) + 1), *pool]
-    parts.append(struct.pack(">HHHH", 0x21, 2, 0, 0))
-    for members in (fields, methods):
-        parts.append(struct.pack(">H", len(members)))
-        parts.extend(members)
-    parts.append(b"\x00\x00")
-    return b"".join(parts)
-
-
-def method(name, desc, code):
-    contents = struct.pack(">HHI", 2, 2, len(code)) + code + bytes(4)
-    return struct.pack(">HHHHHI", 9, name, desc, 1, 3, len(contents)) + contents
 
 
 def ordinary(count):
@@ -69,12 +49,12 @@ KINDS = (
 
 
 def main():
-    need_program()
+    need_programs(CJVM)
     with tempfile.TemporaryDirectory() as folder:
         path = os.path.join(folder, "A.class")
         with open(path, "wb") as out:
             out.write(b"")
-        empty = least_time(path, 3)
+        empty = least_time([CJVM, "run", path], 3)
         print(f"an empty file: {empty * 1000:.2f} ms")
         for name, make, sizes in KINDS:
             for size in sizes:
@@ -82,7 +62,7 @@ def main():
                 assert len(file) <= LIMIT, (name, len(file))
                 with open(path, "wb") as out:
                     out.write(file)
-                took = least_time(path, 14)
+                took = least_time([CJVM, "run", path], 14)
                 net = max(took - empty, 0)
                 print(f"{name:25} {len(file):8} bytes: {took * 1000:7.2f} ms, {net / len(file) * 1e9:6.1f} ns a byte")
 

@@ -8,7 +8,7 @@ import os
 import struct
 import tempfile
 
-from program import A_CLASS, least_time, need_program
+from program import A_CLASS, CJVM, least_time, need_programs
 
 
 def thin_file(count):
@@ -21,7 +21,7 @@ def thin_file(count):
 
 
 def main():
-    need_program()
+    need_programs(CJVM)
     with tempfile.TemporaryDirectory() as folder:
         path = os.path.join(folder, "A.class")
 
@@ -29,7 +29,7 @@ def main():
             file, size, steps = thin_file(count)
             with open(path, "wb") as out:
                 out.write(file)
-            return least_time(path, 0, b"%d\n" % count), size, steps
+            return least_time([CJVM, "run", path], 0, b"%d\n" % count), size, steps
 
         empty, _, _ = timed(0)
         print(f"an empty program: {empty * 1000:.2f} ms")

@@ -3,15 +3,16 @@ use Rattle.std.proofs.Common.{◌≡◌, ℕ, ◌^◌, ◌<◌, Bool, true, List
 use Rattle.std.specs.Int.{w16, w32}
 use Rattle.std.specs.List.{AllByRecursion}
 use Rattle.jvm_base.specs.declared.pool.PoolItem.{PoolItem}
+use Rattle.jvm_base.proofs.Refusing.{bind_ok, need_ok, ok_is}
 use Rattle.class_file.specs.declared.attribute.AttributeHead.{AttributeHead}
 use Rattle.class_file.specs.declared.error.ClassErr.TheVariants.{ItemLink}
-use Rattle.class_file.specs.Links.{is_text_at}
-use Rattle.class_file.specs.Meaning.{AreBytes, FitsAttribute, AreAttributes}
+use Rattle.constant_pool.specs.Items.{is_text_at}
+use Rattle.class_format.specs.Meaning.{AreBytes, FitsAttribute, AreAttributes}
 use Rattle.class_file.specs.MemberReading.{attribute_at, skipped_at, other_at}
 use Rattle.class_file.specs.Reading.{Place, offset_of, ◌>>=◌, need, number_at, bytes_at, counted_at}
-use Rattle.class_file.specs.Spelling.{Attribute, number2, number4, listed, attribute_bytes}
+use Rattle.class_format.specs.Spelling.{Attribute, number2, number4, listed, attribute_bytes}
 use Rattle.class_file.proofs.PartLaws.{IsPart, Lead, listed_take, listed_again}
-use Rattle.class_file.proofs.ReadLaws.{bind_ok, need_ok, ok_is, at, Takes, Takes-then, bytes_take, bytes_again, read2, read4}
+use Rattle.class_file.proofs.ReadLaws.{at, Takes, Takes-then, bytes_take, bytes_again, read2, read4}
 
 -- ---- the head of an attribute
 
@@ -81,10 +82,10 @@ whole_takes pool p q a contents h took long =
     let front : Takes p (number2 a.0.name ++ number4 (length contents)) a.1 = subst (λ (n : ℕ). Takes p (number2 a.0.name ++ number4 n) a.1) (sym long) h.took in
     (Takes-then p (number2 a.0.name ++ number4 (length contents)) a.1 contents q front took, record { name = h.name; text = h.text; contents = omega (arith, h.len, long) })
 
-abbrev IsOther : List PoolItem → Unit {0} → Attribute → Unit {0} → Type 0
+abbrev pub IsOther : List PoolItem → Unit {0} → Attribute → Unit {0} → Type 0
 IsOther pool s a t = FitsAttribute pool a
 
-other_part : (pool : List PoolItem) → IsPart (other_at pool) attribute_bytes (IsOther pool)
+pub other_part : (pool : List PoolItem) → IsPart (other_at pool) attribute_bytes (IsOther pool)
 unfolding other_at
 other_part pool = record {
   takes = λ s p z fits e.
@@ -96,11 +97,11 @@ other_part pool = record {
   again = λ s u a n rest h. rw (head_again pool a n rest h) (skipped_again s a.contents a.name _ n rest);
 }
 
-others_are : (pool : List PoolItem) (s t : Unit {0}) (attributes : List Attribute) → Lead (IsOther pool) s attributes t → AllByRecursion (FitsAttribute pool) attributes
+pub others_are : (pool : List PoolItem) (s t : Unit {0}) (attributes : List Attribute) → Lead (IsOther pool) s attributes t → AllByRecursion (FitsAttribute pool) attributes
 others_are pool s t [] h = tt
 others_are pool s t (a ∷ attributes) h = (h.1, others_are pool h.0 t attributes h.2)
 
-others_lead : (pool : List PoolItem) (attributes : List Attribute) → AllByRecursion (FitsAttribute pool) attributes → Lead (IsOther pool) tt attributes tt
+pub others_lead : (pool : List PoolItem) (attributes : List Attribute) → AllByRecursion (FitsAttribute pool) attributes → Lead (IsOther pool) tt attributes tt
 others_lead pool [] h = refl
 others_lead pool (a ∷ attributes) h = (tt, h.0, others_lead pool attributes h.1)
 

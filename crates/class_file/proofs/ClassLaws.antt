@@ -1,30 +1,36 @@
 -- A class file that is read is one that is spelled.
-use Rattle.std.proofs.Common.{◌≡◌, ℕ, ◌^◌, ◌<◌, Bool, true, false, not, ◌||◌, eqb, List, [], ◌++◌, length, Option, Some, None, Result, Ok, Err, refl, sym, ap, subst, ◌∙◌, append_assoc, arith}
+use Rattle.std.proofs.Common.{◌≡◌, ℕ, ◌^◌, ◌<◌, true, false, not, ◌||◌, eqb, List, [], ◌++◌, length, Option, Some, None, Result, Ok, Err, refl, sym, ap, subst, ◌∙◌, append_assoc, arith}
 use Rattle.std.specs.Int.{w16, w32}
 use Rattle.std.specs.List.{flat_map, AllByRecursion}
 use Rattle.std.specs.Prelude.{IfOk, nat_eq}
 use Rattle.std.proofs.lemmas.Bool.{eqb-true}
 use Rattle.std.proofs.lemmas.List.{append-nil, nil_from_length}
 use Rattle.jvm_base.specs.declared.pool.PoolItem.{PoolItem}
-use Rattle.class_file.specs.declared.class.ClassFile.{ClassFile}
+use Rattle.jvm_base.proofs.Refusing.{bind_ok, need_ok, bind_then, need_then, ok_is}
+use Rattle.jvm_base.proofs.Options.{not_true, is_not}
+use Rattle.class_format.specs.declared.class.ClassFile.{ClassFile}
 use Rattle.class_file.specs.declared.class_reader.Members.{Members}
 use Rattle.class_file.specs.declared.class_reader.Names.{Names}
 use Rattle.class_file.specs.declared.error.ClassErr.{ClassErr}
 use Rattle.class_file.specs.declared.error.ClassErr.TheVariants.{Magic, Version, ItemLink, Flags, Extra}
-use Rattle.class_file.specs.ClassReading.{is_other_version, version_at, linked, class_index_at, super_index_at, interface_at, names_at, members_at, class_body_at, class_at}
-use Rattle.class_file.specs.Flags.{class_flags_clash}
-use Rattle.class_file.specs.Links.{is_class_at, bad_link}
-use Rattle.class_file.specs.Meaning.{AreBytes, FitsLink, IsPool, IsField, IsMethod, Means, IsClass, Spells}
+use Rattle.class_format.specs.Versions.{is_other_version}
+use Rattle.class_file.specs.ClassReading.{version_at, linked, class_index_at, super_index_at, interface_at, names_at, members_at, class_body_at, class_at}
+use Rattle.class_format.specs.Flags.{class_flags_clash}
+use Rattle.constant_pool.specs.Items.{is_class_at}
+use Rattle.constant_pool.specs.Links.{bad_link}
+use Rattle.class_format.specs.Meaning.{AreBytes, FitsLink, IsPool, IsField, IsMethod, Means, IsClass, Spells}
 use Rattle.class_file.specs.MemberReading.{other_at, field_at, method_at}
 use Rattle.class_file.specs.PoolReading.{pool_at}
 use Rattle.class_file.specs.Reading.{Place, Gives, offset_of, ◌>>=◌, number_at, counted_at, listed_at}
-use Rattle.class_file.specs.Spelling.{Source, number2, number4, listed, item_bytes, pool_bytes, attribute_bytes, member_bytes, source_bytes}
+use Rattle.class_file.specs.Refusals.{IsFront}
+use Rattle.class_format.specs.Spelling.{Source, number2, number4, listed, item_bytes, pool_bytes, attribute_bytes, member_bytes, source_bytes}
 use Rattle.class_file.proofs.AttributeLaws.{others_take, others_again}
+use Rattle.class_file.proofs.MeansFronts.{front_of}
 use Rattle.class_file.proofs.MemberLaws.{field_item, method_item}
 use Rattle.class_file.proofs.PartLaws.{IsItem, items_take, items_again, Itself, itself_is, itself_of}
 use Rattle.class_file.proofs.PlainLaws.{is_class}
 use Rattle.class_file.proofs.PoolLaws.{has_count, pool_takes, pool_again}
-use Rattle.class_file.proofs.ReadLaws.{bind_ok, need_ok, bind_then, need_then, regroup3, regroup9, not_true, ok_is, at, Takes, Takes-then, read2, read4}
+use Rattle.class_file.proofs.ReadLaws.{regroup3, regroup9, at, Takes, Takes-then, read2, read4}
 
 -- ---- the version
 
@@ -58,10 +64,6 @@ version_takes p z fits e =
       known = not_true (is_other_version major.0.0 minor.0.0) known.0;
     })
 
-is_not : (b : Bool) → b ≡ false → not b ≡ true
-is_not true e = absurd cc
-is_not false e = refl
-
 pub version_again : (minor major t : ℕ) (rest : List ℕ) → minor < 2 ^ 16 → major < 2 ^ 16 → is_other_version major minor ≡ false → version_at (at t (version_bytes minor major ++ rest)) ≡ Ok ((minor, major), at t rest)
 unfolding version_at
 version_again minor major t rest lm lj known =
@@ -75,7 +77,7 @@ version_again minor major t rest lm lj known =
 
 -- ---- indices of classes
 
-index_takes : (pool : List PoolItem) (p : Place) (z : ℕ × Place) → AreBytes p.rest → class_index_at pool p ≡ Ok z → Takes p (number2 z.0) z.1 × FitsLink pool z.0
+pub index_takes : (pool : List PoolItem) (p : Place) (z : ℕ × Place) → AreBytes p.rest → class_index_at pool p ≡ Ok z → Takes p (number2 z.0) z.1 × FitsLink pool z.0
 unfolding class_index_at
 index_takes pool p z fits e =
     let class = bind_ok (number_at w16 p) _ z e in
@@ -83,14 +85,14 @@ index_takes pool p z fits e =
     let t = read2.takes p class.0.1 class.0.0 fits class.1 in
     subst (λ (z : ℕ × Place). Takes p (number2 z.0) z.1 × FitsLink pool z.0) (ok_is class.0 z link.1) (t.0, (t.1, link.0))
 
-index_again : (pool : List PoolItem) (n t : ℕ) (rest : List ℕ) → FitsLink pool n → class_index_at pool (at t (number2 n ++ rest)) ≡ Ok (n, at t rest)
+pub index_again : (pool : List PoolItem) (n t : ℕ) (rest : List ℕ) → FitsLink pool n → class_index_at pool (at t (number2 n ++ rest)) ≡ Ok (n, at t rest)
 unfolding class_index_at
 index_again pool n t rest h = bind_then (number_at w16 (at t (number2 n ++ rest))) (n, at t rest) _ _ (read2.again n t rest h.0) (need_then (is_class_at pool n) _ _ _ h.1 refl)
 
-abbrev FitsSuper : List PoolItem → ℕ → Type 0
+abbrev pub FitsSuper : List PoolItem → ℕ → Type 0
 FitsSuper pool n = (n < 2 ^ 16) × ((nat_eq n 0 || is_class_at pool n) ≡ true)
 
-super_takes : (pool : List PoolItem) (p : Place) (z : ℕ × Place) → AreBytes p.rest → super_index_at pool p ≡ Ok z → Takes p (number2 z.0) z.1 × FitsSuper pool z.0
+pub super_takes : (pool : List PoolItem) (p : Place) (z : ℕ × Place) → AreBytes p.rest → super_index_at pool p ≡ Ok z → Takes p (number2 z.0) z.1 × FitsSuper pool z.0
 unfolding super_index_at
 super_takes pool p z fits e =
     let class = bind_ok (number_at w16 p) _ z e in
@@ -98,11 +100,11 @@ super_takes pool p z fits e =
     let t = read2.takes p class.0.1 class.0.0 fits class.1 in
     subst (λ (z : ℕ × Place). Takes p (number2 z.0) z.1 × FitsSuper pool z.0) (ok_is class.0 z link.1) (t.0, (t.1, link.0))
 
-super_again : (pool : List PoolItem) (n t : ℕ) (rest : List ℕ) → FitsSuper pool n → super_index_at pool (at t (number2 n ++ rest)) ≡ Ok (n, at t rest)
+pub super_again : (pool : List PoolItem) (n t : ℕ) (rest : List ℕ) → FitsSuper pool n → super_index_at pool (at t (number2 n ++ rest)) ≡ Ok (n, at t rest)
 unfolding super_index_at
 super_again pool n t rest h = bind_then (number_at w16 (at t (number2 n ++ rest))) (n, at t rest) _ _ (read2.again n t rest h.0) (need_then (nat_eq n 0 || is_class_at pool n) _ _ _ h.1 refl)
 
-interface : (pool : List PoolItem) → IsItem (interface_at pool) number2 (Itself (FitsLink pool))
+pub interface : (pool : List PoolItem) → IsItem (interface_at pool) number2 (Itself (FitsLink pool))
 unfolding interface_at
 interface pool = record {
   takes = λ earlier p z fits e. let t = index_takes pool p z fits e in record { a = z.0; is = (refl, t.1); took = t.0 };
@@ -148,12 +150,12 @@ names_take pool start front p z before e =
       count = omega (arith, t3.count, ap length links.0);
     })
 
-abbrev names_of : Source → Names
+abbrev pub names_of : Source → Names
 names_of s = record { flags = s.flags; this_class = s.this_class; super_class = s.super_class; interfaces = s.interfaces }
 
-names_again : (s : Source) (c : ClassFile) (t : ℕ) (rest : List ℕ) → Means s c → names_at s.pool (at t (number2 s.flags ++ (number2 s.this_class ++ (number2 s.super_class ++ (listed number2 s.interfaces ++ rest))))) ≡ Ok (names_of s, at t rest)
+pub names_again : (s : Source) (t : ℕ) (rest : List ℕ) → IsFront s → names_at s.pool (at t (number2 s.flags ++ (number2 s.this_class ++ (number2 s.super_class ++ (listed number2 s.interfaces ++ rest))))) ≡ Ok (names_of s, at t rest)
 unfolding names_at
-names_again s c t rest h =
+names_again s t rest h =
     let list_rest : List ℕ = listed number2 s.interfaces ++ rest in
     let super_rest : List ℕ = number2 s.super_class ++ list_rest in
     let this_rest : List ℕ = number2 s.this_class ++ super_rest in
@@ -169,7 +171,7 @@ pub linked_ok : {B : Type 0} (o : Option ℕ) (f : Unit {0} → Result B ClassEr
 linked_ok None f y e = (refl, e)
 linked_ok (Some i) f y e = absurd cc
 
-linked_then : {B : Type 0} (o : Option ℕ) (f : Unit {0} → Result B ClassErr) (y : Result B ClassErr) → o ≡ None → f tt ≡ y → (linked o >>= f) ≡ y
+pub linked_then : {B : Type 0} (o : Option ℕ) (f : Unit {0} → Result B ClassErr) (y : Result B ClassErr) → o ≡ None → f tt ≡ y → (linked o >>= f) ≡ y
 linked_then None f y e h = h
 linked_then (Some i) f y e h = absurd cc
 
@@ -323,7 +325,7 @@ members_again s c t rest h =
     let fields_rest : List ℕ = listed member_bytes s.fields ++ methods_rest in
     let start : Place = at t (number2 s.flags ++ (number2 s.this_class ++ (number2 s.super_class ++ (listed number2 s.interfaces ++ fields_rest)))) in
     linked_then (bad_link s.pool) _ _ h.links
-    (bind_then (names_at s.pool start) (names_of s, at t fields_rest) _ _ (names_again s c t fields_rest h)
+    (bind_then (names_at s.pool start) (names_of s, at t fields_rest) _ _ (names_again s t fields_rest (front_of s c h))
     (bind_then (listed_at (field_at s.pool) (at t fields_rest)) (c.fields, at t methods_rest) _ _ (items_again (field_at s.pool) member_bytes (IsField s.pool) (field_item s.pool) s.fields c.fields t methods_rest h.fields h.field_count)
     (bind_then (listed_at (method_at s.pool) (at t methods_rest)) (c.methods, at t others_rest) _ _ (items_again (method_at s.pool) member_bytes (IsMethod s.pool) (method_item s.pool) s.methods c.methods t others_rest h.methods h.method_count)
     (bind_then (counted_at (other_at s.pool) tt (at t others_rest)) (tt, at t rest) _ _ (others_again s.pool s.attributes t rest h.attributes) refl))))

@@ -8,20 +8,21 @@ use Rattle.std.proofs.lemmas.Bool.Decides.{nat_tests}
 use Rattle.jvm_base.specs.declared.code_item.CodeItem.{CodeItem}
 use Rattle.jvm_base.specs.declared.code_item.TableItem.{TableItem}
 use Rattle.jvm_base.specs.declared.pool.PoolItem.{PoolItem}
+use Rattle.jvm_base.proofs.Refusing.{bind_ok, need_ok, bind_then, need_then, ok_is}
 use Rattle.class_file.specs.declared.attribute.AttributeHead.{AttributeHead}
 use Rattle.class_file.specs.declared.error.ClassErr.TheVariants.{ItemLink, AttrLength, CodeLength}
-use Rattle.class_file.specs.Links.{is_class_at}
-use Rattle.class_file.specs.Meaning.{AreBytes, FitsEntry, IsCode}
+use Rattle.constant_pool.specs.Items.{is_class_at}
+use Rattle.class_format.specs.Meaning.{AreBytes, FitsEntry, IsCode}
 use Rattle.class_file.specs.MemberReading.{other_at, table_item_at, code_contents_at, code_at}
 use Rattle.class_file.specs.Reading.{Place, offset_of, number_at, bytes_at, counted_at, listed_at}
-use Rattle.class_file.specs.Spelling.{number2, number4, listed, attribute_bytes, table_bytes, code_bytes}
+use Rattle.class_format.specs.Spelling.{number2, number4, listed, attribute_bytes, table_bytes, code_bytes}
 use Rattle.class_file.proofs.AttributeLaws.{others_take, others_again}
 use Rattle.class_file.proofs.PartLaws.{IsItem, TookItem, items_take, items_again, Itself, itself_is, itself_of}
-use Rattle.class_file.proofs.ReadLaws.{bind_ok, need_ok, bind_then, need_then, regroup4, regroup6, ok_is, at, Takes, Takes-then, bytes_take, bytes_again, read2, read4}
+use Rattle.class_file.proofs.ReadLaws.{regroup4, regroup6, at, Takes, Takes-then, bytes_take, bytes_again, read2, read4}
 
 -- ---- entries of an exception table
 
-entry : (pool : List PoolItem) → IsItem (table_item_at pool) table_bytes (Itself (FitsEntry pool))
+pub entry : (pool : List PoolItem) → IsItem (table_item_at pool) table_bytes (Itself (FitsEntry pool))
 unfolding table_item_at
 entry pool = record {
   takes = λ earlier p z fits e.
@@ -57,18 +58,18 @@ entry pool = record {
 
 -- ---- the contents of Code
 
-record IsCodeTaken (pool : List PoolItem) (p : Place) (z : CodeItem × Place) : Type 0 where
+pub record IsCodeTaken (pool : List PoolItem) (p : Place) (z : CodeItem × Place) : Type 0 where
   pub contents : List ℕ
   pub took : Takes p contents z.1
   pub is : IsCode pool z.0 contents
 
-in_range : (n : ℕ) → (nat_lt 0 n && nat_lt n 65536) ≡ true → (0 < n) × (n < 65536)
+pub in_range : (n : ℕ) → (nat_lt 0 n && nat_lt n 65536) ≡ true → (0 < n) × (n < 65536)
 in_range n h = (grind (arith, nat_tests), grind (arith, nat_tests))
 
-is_in_range : (n : ℕ) → 0 < n → n < 65536 → (nat_lt 0 n && nat_lt n 65536) ≡ true
+pub is_in_range : (n : ℕ) → 0 < n → n < 65536 → (nat_lt 0 n && nat_lt n 65536) ≡ true
 is_in_range n some short = grind (arith, nat_tests)
 
-contents_take : (pool : List PoolItem) (m : ℕ) (p : Place) (z : CodeItem × Place) → AreBytes p.rest → code_contents_at pool m p ≡ Ok z → IsCodeTaken pool p z
+pub contents_take : (pool : List PoolItem) (m : ℕ) (p : Place) (z : CodeItem × Place) → AreBytes p.rest → code_contents_at pool m p ≡ Ok z → IsCodeTaken pool p z
 unfolding code_contents_at
 contents_take pool m p z fits e =
     let stack = bind_ok (number_at w16 p) _ z e in
@@ -109,7 +110,7 @@ contents_take pool m p z fits e =
     } in
     subst (λ (z : CodeItem × Place). IsCodeTaken pool p z) (ok_is made z others.2) (record { contents = code_bytes c t5.attributes; took = all; is = is })
 
-contents_again : (pool : List PoolItem) (m : ℕ) (c : CodeItem) (contents : List ℕ) (t : ℕ) (rest : List ℕ) → IsCode pool c contents → code_contents_at pool m (at t (contents ++ rest)) ≡ Ok (c, at t rest)
+pub contents_again : (pool : List PoolItem) (m : ℕ) (c : CodeItem) (contents : List ℕ) (t : ℕ) (rest : List ℕ) → IsCode pool c contents → code_contents_at pool m (at t (contents ++ rest)) ≡ Ok (c, at t rest)
 unfolding code_contents_at
 contents_again pool m c contents t rest h =
     ap (λ (bytes : List ℕ). code_contents_at pool m (at t (bytes ++ rest))) h.spelled

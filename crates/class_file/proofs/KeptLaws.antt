@@ -7,20 +7,21 @@ use Rattle.std.proofs.lemmas.Bool.{eqb-true}
 use Rattle.std.proofs.lemmas.List.{append-nil}
 use Rattle.jvm_base.specs.declared.code_item.CodeItem.{CodeItem}
 use Rattle.jvm_base.specs.declared.pool.PoolItem.{PoolItem}
+use Rattle.jvm_base.proofs.Refusing.{bind_ok, need_ok, bind_then, need_then, ok_is}
 use Rattle.class_file.specs.declared.attribute.AttributeHead.{AttributeHead}
 use Rattle.class_file.specs.declared.error.ClassErr.TheVariants.{ItemLink, AttrLength}
 use Rattle.class_file.specs.declared.head.Head.{Head}
-use Rattle.class_file.specs.Flags.{is_static}
-use Rattle.class_file.specs.Links.{is_text_that}
-use Rattle.class_file.specs.Meaning.{AreBytes, FitsAttribute, IsCode, IsConstant, contents_of, keeps_constant, holds_code}
+use Rattle.class_format.specs.Flags.{is_static}
+use Rattle.constant_pool.specs.Items.{is_text_that}
+use Rattle.class_format.specs.Meaning.{AreBytes, FitsAttribute, IsCode, IsConstant, contents_of, keeps_constant, holds_code}
 use Rattle.class_file.specs.MemberReading.{attribute_at, skipped_at, constant_at, field_attribute_at, another_code_at, code_at, method_attribute_at}
-use Rattle.class_file.specs.Members.{is_code, is_constant_value, is_constant_at}
+use Rattle.constant_pool.specs.KnownTexts.{is_code, is_constant_value, is_constant_at}
 use Rattle.class_file.specs.Reading.{Place, offset_of, number_at}
-use Rattle.class_file.specs.Spelling.{Attribute, number2, attribute_bytes}
+use Rattle.class_format.specs.Spelling.{Attribute, number2, attribute_bytes}
 use Rattle.class_file.proofs.AttributeLaws.{head_of, head_takes, head_again, skipped_takes, skipped_again, whole, whole_takes}
 use Rattle.class_file.proofs.CodeLaws.{code_takes, code_again}
 use Rattle.class_file.proofs.PartLaws.{IsPart, Lead}
-use Rattle.class_file.proofs.ReadLaws.{bind_ok, need_ok, bind_then, need_then, ok_is, at, Takes, read2}
+use Rattle.class_file.proofs.ReadLaws.{at, Takes, read2}
 
 contents_by : (b : Bool) (a : Attribute) (kept : List Attribute) → map (λ x. x.contents) (cond b (a ∷ kept) kept) ≡ cond b (a.contents ∷ map (λ x. x.contents) kept) (map (λ x. x.contents) kept)
 contents_by true a kept = refl
@@ -45,7 +46,7 @@ record IsConstantTaken (pool : List PoolItem) (desc : ℕ) (kept : Option ℕ) (
   pub long : length contents ≡ len
   pub by : ByConstant true pool desc kept contents z.0
 
-none_kept : (kept : Option ℕ) → not (is_some kept) ≡ true → kept ≡ None
+pub none_kept : (kept : Option ℕ) → not (is_some kept) ≡ true → kept ≡ None
 none_kept None e = refl
 none_kept (Some v) e = absurd cc
 

@@ -5,28 +5,31 @@ use Rattle.std.proofs.lemmas.Bool.{eqb-true}
 use Rattle.std.proofs.lemmas.Bool.Decides.{nat_tests}
 use Rattle.jvm_base.specs.declared.code_item.CodeItem.{CodeItem}
 use Rattle.jvm_base.specs.declared.pool.PoolItem.{PoolItem}
-use Rattle.class_file.specs.declared.class.FieldItem.{FieldItem}
-use Rattle.class_file.specs.declared.class.MethodItem.{MethodItem}
+use Rattle.jvm_base.proofs.Refusing.{bind_ok, need_ok, bind_then, need_then, ok_is}
+use Rattle.jvm_base.proofs.Options.{not_true, is_not}
+use Rattle.class_format.specs.declared.class.FieldItem.{FieldItem}
+use Rattle.class_format.specs.declared.class.MethodItem.{MethodItem}
 use Rattle.class_file.specs.declared.error.ClassErr.TheVariants.{ItemLink, Flags, Twice, CodeCount}
 use Rattle.class_file.specs.declared.head.Head.{Head}
-use Rattle.class_file.specs.declared.head.MemberKind.{MemberKind}
-use Rattle.class_file.specs.declared.head.MemberKind.TheVariants as kinds
-use Rattle.class_file.specs.Links.{is_text_that}
-use Rattle.class_file.specs.Meaning.{AreBytes, AreAttributes, IsMember, IsField, IsMethod, HasCode, contents_of, holds_code}
+use Rattle.class_format.specs.declared.member_kind.MemberKind.{MemberKind}
+use Rattle.class_format.specs.declared.member_kind.MemberKind.TheVariants as kinds
+use Rattle.constant_pool.specs.Items.{is_text_that}
+use Rattle.class_format.specs.Meaning.{AreBytes, AreAttributes, IsMember, IsField, IsMethod, HasCode, contents_of, holds_code}
 use Rattle.class_file.specs.MemberReading.{head_at, new_head_at, field_attribute_at, field_at, method_attribute_at, method_at}
-use Rattle.class_file.specs.Members.{is_named, is_without_receiver, is_desc_of, flags_clash, is_among, field_keys, method_keys, code_count}
+use Rattle.constant_pool.specs.KnownTexts.{is_named}
+use Rattle.class_format.specs.Members.{is_without_receiver, is_desc_of, flags_clash, is_among, field_keys, method_keys, code_count}
 use Rattle.class_file.specs.Reading.{Place, offset_of, number_at, counted_at}
-use Rattle.class_file.specs.Spelling.{Attribute, Member, number2, listed, attribute_bytes, member_bytes}
+use Rattle.class_format.specs.Spelling.{Attribute, Member, number2, listed, attribute_bytes, member_bytes}
 use Rattle.class_file.proofs.KeptLaws.{LeadsConstant, field_part, kept_of, kept_lead, LeadsCode, method_part, AreCodes, added_of, added_lead}
 use Rattle.class_file.proofs.PartLaws.{IsItem, TookItem, Lead, listed_take, listed_again}
-use Rattle.class_file.proofs.ReadLaws.{bind_ok, need_ok, bind_then, need_then, regroup4, not_true, ok_is, at, Takes, Takes-then, read2}
+use Rattle.class_file.proofs.ReadLaws.{regroup4, at, Takes, Takes-then, read2}
 
 -- ---- what they begin with
 
 abbrev pub head_bytes : Head → List ℕ
 head_bytes h = number2 h.flags ++ number2 h.name ++ number2 h.desc
 
-record IsHead (kind : MemberKind) (pool : List PoolItem) (earlier : List (ℕ × ℕ)) (h : Head) : Type 0 where
+pub record IsHead (kind : MemberKind) (pool : List PoolItem) (earlier : List (ℕ × ℕ)) (h : Head) : Type 0 where
   pub flags : h.flags < 2 ^ 16
   pub name : h.name < 2 ^ 16
   pub desc : h.desc < 2 ^ 16
@@ -35,10 +38,10 @@ record IsHead (kind : MemberKind) (pool : List PoolItem) (earlier : List (ℕ ×
   pub plain : flags_clash kind (is_without_receiver pool h.flags h.name) h.flags ≡ false
   pub new : is_among pool earlier h.name h.desc ≡ false
 
-abbrev HeadTaken : MemberKind → List PoolItem → List (ℕ × ℕ) → Place → Head × Place → Type 0
+abbrev pub HeadTaken : MemberKind → List PoolItem → List (ℕ × ℕ) → Place → Head × Place → Type 0
 HeadTaken kind pool earlier p z = Takes p (head_bytes z.0) z.1 × IsHead kind pool earlier z.0
 
-head_takes : (kind : MemberKind) (pool : List PoolItem) (earlier : List (ℕ × ℕ)) (p : Place) (z : Head × Place) → AreBytes p.rest → new_head_at kind pool earlier p ≡ Ok z → HeadTaken kind pool earlier p z
+pub head_takes : (kind : MemberKind) (pool : List PoolItem) (earlier : List (ℕ × ℕ)) (p : Place) (z : Head × Place) → AreBytes p.rest → new_head_at kind pool earlier p ≡ Ok z → HeadTaken kind pool earlier p z
 unfolding new_head_at head_at
 head_takes kind pool earlier p z fits e =
     let head = bind_ok (head_at kind pool p) _ z e in
@@ -61,11 +64,7 @@ head_takes kind pool earlier p z fits e =
       record { flags = t0.1; name = t1.1; desc = t2.1; named = named.0; typed = typed.0; plain = not_true (flags_clash kind (is_without_receiver pool flags.0.0 name.0.0) flags.0.0) plain.0; new = fresh },
     )
 
-is_not : (b : Bool) → b ≡ false → not b ≡ true
-is_not true e = absurd cc
-is_not false e = refl
-
-head_again : (kind : MemberKind) (pool : List PoolItem) (earlier : List (ℕ × ℕ)) (h : Head) (n : ℕ) (rest : List ℕ) → IsHead kind pool earlier h → new_head_at kind pool earlier (at n (number2 h.flags ++ (number2 h.name ++ (number2 h.desc ++ rest)))) ≡ Ok (h, at n rest)
+pub head_again : (kind : MemberKind) (pool : List PoolItem) (earlier : List (ℕ × ℕ)) (h : Head) (n : ℕ) (rest : List ℕ) → IsHead kind pool earlier h → new_head_at kind pool earlier (at n (number2 h.flags ++ (number2 h.name ++ (number2 h.desc ++ rest)))) ≡ Ok (h, at n rest)
 unfolding new_head_at head_at
 head_again kind pool earlier h n rest is =
     let desc_rest : List ℕ = number2 h.desc ++ rest in
@@ -84,16 +83,16 @@ head_again kind pool earlier h n rest is =
 
 -- ---- with their attributes
 
-abbrev member_of : Head → List Attribute → Member
+abbrev pub member_of : Head → List Attribute → Member
 member_of h attributes = record { flags = h.flags; name = h.name; desc = h.desc; attributes = attributes }
 
-abbrev head_in : Member → Head
+abbrev pub head_in : Member → Head
 head_in m = record { flags = m.flags; name = m.name; desc = m.desc }
 
-is_member : (kind : MemberKind) (pool : List PoolItem) (earlier : List (ℕ × ℕ)) (h : Head) (attributes : List Attribute) → IsHead kind pool earlier h → AreAttributes pool attributes → IsMember kind pool (member_of h attributes)
+pub is_member : (kind : MemberKind) (pool : List PoolItem) (earlier : List (ℕ × ℕ)) (h : Head) (attributes : List Attribute) → IsHead kind pool earlier h → AreAttributes pool attributes → IsMember kind pool (member_of h attributes)
 is_member kind pool earlier h attributes is fits = record { flags = is.flags; name = is.name; desc = is.desc; named = is.named; typed = is.typed; plain = is.plain; attributes = fits }
 
-is_head : (kind : MemberKind) (pool : List PoolItem) (earlier : List (ℕ × ℕ)) (m : Member) → IsMember kind pool m → is_among pool earlier m.name m.desc ≡ false → IsHead kind pool earlier (head_in m)
+pub is_head : (kind : MemberKind) (pool : List PoolItem) (earlier : List (ℕ × ℕ)) (m : Member) → IsMember kind pool m → is_among pool earlier m.name m.desc ≡ false → IsHead kind pool earlier (head_in m)
 is_head kind pool earlier m is new = record { flags = is.flags; name = is.name; desc = is.desc; named = is.named; typed = is.typed; plain = is.plain; new = new }
 
 -- ---- fields

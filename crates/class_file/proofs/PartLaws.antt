@@ -4,11 +4,12 @@ use Rattle.std.specs.Int.{w16}
 use Rattle.std.specs.List.{flat_map, AllByRecursion}
 use Rattle.std.proofs.lemmas.List.{append-nil}
 use Rattle.std.proofs.lemmas.List.Concat.{flat_map-cons}
+use Rattle.jvm_base.proofs.Refusing.{bind_ok, ok_is}
 use Rattle.class_file.specs.declared.error.ClassErr.{ClassErr}
-use Rattle.class_file.specs.Meaning.{AreBytes, Spelled}
+use Rattle.class_format.specs.Meaning.{AreBytes, Spelled}
 use Rattle.class_file.specs.Reading.{Place, number_at, each_at, counted_at, adding, listed_at}
-use Rattle.class_file.specs.Spelling.{number2, listed}
-use Rattle.class_file.proofs.ReadLaws.{bind_ok, ok_is, at, Takes, takes_none, Takes-then, read2}
+use Rattle.class_format.specs.Spelling.{number2, listed}
+use Rattle.class_file.proofs.ReadLaws.{at, Takes, takes_none, Takes-then, read2}
 
 -- a source that leads from one state to another, and was taken
 pub record Took {S A : Type 0} (bytes : A → List ℕ) (Leads : S → A → S → Type 0) (s : S) (p : Place) (z : S × Place) : Type 0 where

@@ -1,5 +1,5 @@
 -- What some bytes spell is spelled without the attributes that are skipped, too.
-use Rattle.std.proofs.Common.{◌≡◌, ℕ, ◌+◌, ◌*◌, ◌^◌, ◌<◌, Bool, true, false, ◌&&◌, cond, List, [], ◌∷◌, ◌++◌, length, map, get_or, Option, Some, None, slice_get, refl, sym, ap, subst, ◌∙◌, arith, inl, inr, length-append}
+use Rattle.std.proofs.Common.{◌≡◌, ℕ, ◌+◌, ◌*◌, ◌^◌, ◌<◌, Bool, true, false, cond, List, [], ◌∷◌, ◌++◌, length, map, get_or, Option, Some, None, slice_get, refl, sym, ap, subst, ◌∙◌, arith, inl, inr, length-append}
 use Rattle.std.specs.List.{flat_map}
 use Rattle.std.specs.Option.{option_map_or}
 use Rattle.std.specs.Prelude.{is_some, option_and_then}
@@ -12,14 +12,15 @@ use Rattle.jvm_base.specs.declared.code_item.CodeItem.{CodeItem}
 use Rattle.jvm_base.specs.declared.code_item.TableItem.{TableItem}
 use Rattle.jvm_base.specs.declared.pool.PoolItem.{PoolItem}
 use Rattle.jvm_base.specs.declared.pool.PoolItem.TheVariants.{Gap}
-use Rattle.class_file.specs.declared.class.ClassFile.{ClassFile}
-use Rattle.class_file.specs.declared.class.FieldItem.{FieldItem}
-use Rattle.class_file.specs.declared.class.MethodItem.{MethodItem}
-use Rattle.class_file.specs.Flags.{is_static}
-use Rattle.class_file.specs.Links.{text_of, text_at, is_text_that}
-use Rattle.class_file.specs.Meaning.{FitsAttribute, AreAttributes, IsField, IsMethod, IsCode, IsConstant, HasCode, Means, Spelled, contents_of, keeps_constant, holds_code, lowest_that, constant_attributes, code_attributes, plain_field, plain_method, plain, IsClass}
-use Rattle.class_file.specs.Members.{is_code, is_constant_value}
-use Rattle.class_file.specs.Spelling.{Attribute, Member, Source, number2, number4, listed, attribute_bytes, table_bytes, code_bytes}
+use Rattle.jvm_base.proofs.Options.{and_parts}
+use Rattle.class_format.specs.declared.class.ClassFile.{ClassFile}
+use Rattle.class_format.specs.declared.class.FieldItem.{FieldItem}
+use Rattle.class_format.specs.declared.class.MethodItem.{MethodItem}
+use Rattle.class_format.specs.Flags.{is_static}
+use Rattle.constant_pool.specs.Items.{text_of, text_at, is_text_that}
+use Rattle.class_format.specs.Meaning.{FitsAttribute, AreAttributes, IsField, IsMethod, IsCode, IsConstant, HasCode, Means, Spelled, contents_of, keeps_constant, holds_code, lowest_that, constant_attributes, code_attributes, plain_field, plain_method, plain, IsClass}
+use Rattle.constant_pool.specs.KnownTexts.{is_code, is_constant_value}
+use Rattle.class_format.specs.Spelling.{Attribute, Member, Source, number2, number4, listed, attribute_bytes, table_bytes, code_bytes}
 use Rattle.class_file.proofs.KeptLaws.{contents_cons}
 use Rattle.class_file.proofs.PartLaws.{spelled_long}
 
@@ -47,7 +48,7 @@ module _ (test : List ℕ → Bool) (pool : List PoolItem) where
       ap (λ (o : Option PoolItem). option_map_or test (option_and_then text_of o) false) (slice_get-get_or pool (lowest_that test pool) Gap lt)
       ∙ passes_at_first (λ item. option_map_or test (text_of item) false) pool Gap lt
 
-text_there : (test : List ℕ → Bool) (o : Option (List ℕ)) → option_map_or test o false ≡ true → is_some o ≡ true
+pub text_there : (test : List ℕ → Bool) (o : Option (List ℕ)) → option_map_or test o false ≡ true → is_some o ≡ true
 text_there test (Some us) h = refl
 text_there test None h = absurd cc
 
@@ -72,10 +73,6 @@ has_one : (test : Attribute → Bool) (attributes : List Attribute) (one : List 
 has_one test [] one more h = absurd cc
 has_one test (a ∷ attributes) one more h = one_by (test a) test a (contents_of test attributes) one more refl (sym (contents_cons test a attributes) ∙ h) (has_one test attributes one more)
 
-both_true : (a b : Bool) → (a && b) ≡ true → (a ≡ true) × (b ≡ true)
-both_true true b h = (refl, h)
-both_true false b h = absurd cc
-
 -- ---- fields
 
 record PlainConstant (pool : List PoolItem) (flags desc : ℕ) (constant : Option ℕ) : Type 0 where
@@ -86,7 +83,7 @@ plain_constant : (pool : List PoolItem) (flags desc : ℕ) (constant : Option �
 plain_constant pool flags desc None attributes count h = record { attributes = (tt, omega arith); constant_is = refl }
 plain_constant pool flags desc (Some value) attributes count h =
     let one = has_one (keeps_constant pool flags) attributes (number2 value) [] h.0 in
-    let parts = both_true (is_static flags) (is_text_that is_constant_value pool one.a.name) one.passes in
+    let parts = and_parts (is_static flags) (is_text_that is_constant_value pool one.a.name) one.passes in
     let stands : lowest_that is_constant_value pool < length pool = lowest_stands is_constant_value pool one.a.name parts.1 in
     let a : Attribute = record { name = lowest_that is_constant_value pool; contents = number2 value } in
     let kept : keeps_constant pool flags a ≡ true = rw (parts.0, lowest_passes is_constant_value pool stands) refl in

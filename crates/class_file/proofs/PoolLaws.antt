@@ -1,5 +1,5 @@
 -- A pool that is read is the pool that is spelled.
-use Rattle.std.proofs.Common.{◌≡◌, ℕ, zero, suc, ◌+◌, ◌-◌, ◌^◌, ◌<◌, Bool, true, false, cond, eqb, ltb, nat_lt, List, [], ◌∷◌, ◌++◌, length, Some, Result, Ok, refl, sym, ap, subst, ◌∙◌, inl, inr, append_assoc, arith, ℤ, pos, FitsSigned, slice_get, length-append}
+use Rattle.std.proofs.Common.{◌≡◌, ℕ, zero, suc, ◌+◌, ◌-◌, ◌^◌, ◌<◌, ◌≤◌, Bool, true, false, cond, eqb, ltb, nat_lt, List, [], ◌∷◌, ◌++◌, length, Some, Result, Ok, refl, sym, ap, subst, ◌∙◌, inl, inr, append_assoc, arith, ℤ, pos, FitsSigned, slice_get, length-append}
 use lib.IntN.{negsuc}
 use mir.Val.{sel, hbits, bits}
 use borrow.Author.Tests.{ltb-true}
@@ -13,15 +13,19 @@ use Rattle.jvm_base.proofs.Texts.{text_reader}
 use Rattle.jvm_base.specs.declared.pool.PoolItem.{PoolItem}
 use Rattle.jvm_base.specs.declared.pool.PoolItem.TheVariants.{Gap, Utf8, Integer, Float, Long, Double, Class, Text, Field, Method, InterfaceMethod, NameAndKind}
 use Rattle.jvm_base.specs.Text.{units_of, text_bytes}
+use Rattle.jvm_base.proofs.Refusing.{bind_ok, need_ok, want_ok, ok_is}
+use Rattle.jvm_base.proofs.Options.{chosen}
 use Rattle.class_file.specs.declared.error.ClassErr.{ClassErr}
 use Rattle.class_file.specs.declared.error.ClassErr.TheVariants.{PoolTag, PoolText}
-use Rattle.class_file.specs.Links.{is_class_at, bad_link}
-use Rattle.class_file.specs.Meaning.{AreBytes, FitsItem, AreItems, IsPool, Spelled}
-use Rattle.class_file.specs.PoolReading.{is_wide, is_wide_there, is_after_wide, text_item_at, number_item_at, wide_item_at, two_indices_at, pair_item_at, content_at, item_at, next_item_at, pool_at}
+use Rattle.constant_pool.specs.Items.{is_class_at}
+use Rattle.constant_pool.specs.Links.{bad_link}
+use Rattle.class_format.specs.Meaning.{AreBytes, FitsItem, AreItems, IsPool, Spelled}
+use Rattle.constant_pool.specs.Items.{is_wide}
+use Rattle.class_file.specs.PoolReading.{is_wide_there, is_after_wide, text_item_at, number_item_at, wide_item_at, two_indices_at, pair_item_at, content_at, item_at, next_item_at, pool_at}
 use Rattle.class_file.specs.Reading.{Place, ◌>>=◌, want, number_at, bytes_at, each_at, adding}
-use Rattle.class_file.specs.Spelling.{number2, number4, number8, item_bytes}
+use Rattle.class_format.specs.Spelling.{number2, number4, number8, item_bytes}
 use Rattle.class_file.proofs.PartLaws.{Lead, spelled_long, IsItem, Adds, adds, all_take, all_again, spelled_of, lead_of}
-use Rattle.class_file.proofs.ReadLaws.{bind_ok, need_ok, want_ok, chosen, ok_is, at, Takes, takes_none, Takes-then, IsRead, bytes_take, bytes_again, read1, read2, read4, read8}
+use Rattle.class_file.proofs.ReadLaws.{at, Takes, takes_none, Takes-then, IsRead, bytes_take, bytes_again, read1, read2, read4, read8}
 
 -- ---- what follows a tag
 
@@ -181,11 +185,11 @@ item_again i r (NameAndKind a b) t rest h room = behind_tag 12 i r t _ (omega ar
 -- ---- the whole pool
 
 -- what may come behind these items
-abbrev NextBy : Bool → ℕ → ℕ → PoolItem → Type 0
+abbrev pub NextBy : Bool → ℕ → ℕ → PoolItem → Type 0
 NextBy true count i x = x ≡ Gap
 NextBy false count i x = FitsItem x × (is_wide x ≡ true → nat_lt (i + 1) count ≡ true)
 
-abbrev IsNext : ℕ → List PoolItem → PoolItem → PoolItem → Type 0
+abbrev pub IsNext : ℕ → List PoolItem → PoolItem → PoolItem → Type 0
 IsNext count pool a x = (x ≡ a) × NextBy (is_after_wide pool) count (length pool) x
 
 next_takes : (b : Bool) (count i : ℕ) (p : Place) (z : PoolItem × Place) → AreBytes p.rest → cond b (Ok (Gap, p)) (item_at i (nat_lt (i + 1) count) p) ≡ Ok z → NextBy b count i z.0 × Takes p (item_bytes z.0) z.1
@@ -196,7 +200,7 @@ next_again : (b : Bool) (count i : ℕ) (x : PoolItem) (n : ℕ) (rest : List �
 next_again true count i x n rest h = subst (λ (y : PoolItem). cond true (Ok (Gap, at n (item_bytes y ++ rest))) (item_at i (nat_lt (i + 1) count) (at n (item_bytes y ++ rest))) ≡ Ok (y, at n rest)) (sym h) refl
 next_again false count i x n rest h = item_again i (nat_lt (i + 1) count) x n rest h.0 h.1
 
-next_item : (count : ℕ) → IsItem (next_item_at count) item_bytes (IsNext count)
+pub next_item : (count : ℕ) → IsItem (next_item_at count) item_bytes (IsNext count)
 unfolding next_item_at
 next_item count = record {
   takes = λ pool p z fits e.
@@ -211,7 +215,7 @@ last_is : (front : List PoolItem) (x : PoolItem) → slice_get (front ++ x ∷ [
 last_is [] x = refl
 last_is (y ∷ front) x = last_is front x
 
-after_is : (front : List PoolItem) (x : PoolItem) → is_after_wide (front ++ x ∷ []) ≡ is_wide x
+pub after_is : (front : List PoolItem) (x : PoolItem) → is_after_wide (front ++ x ∷ []) ≡ is_wide x
 after_is front x =
     let k : length (front ++ x ∷ []) - 1 ≡ length front = omega (arith, length-append front (x ∷ [])) in
     ap (λ (i : ℕ). is_wide_there (slice_get (front ++ x ∷ []) i)) k ∙ ap is_wide_there (last_is front x)
@@ -220,7 +224,7 @@ room_of : (b : Bool) (count i : ℕ) (x : PoolItem) → NextBy b count i x → i
 room_of true count i x h w = let k : is_wide Gap ≡ true = subst (λ (y : PoolItem). is_wide y ≡ true) h w in absurd cc
 room_of false count i x h w = h.1 w
 
-step_of : (b : Bool) (count i : ℕ) (x : PoolItem) (items : List PoolItem) → NextBy b count i x → AreItems (is_wide x) items → AreItems b (x ∷ items)
+pub step_of : (b : Bool) (count i : ℕ) (x : PoolItem) (items : List PoolItem) → NextBy b count i x → AreItems (is_wide x) items → AreItems b (x ∷ items)
 step_of true count i x items h others = (h, subst (λ (y : PoolItem). AreItems (is_wide y) items) h others)
 step_of false count i x items h others = (h.0, others)
 
@@ -238,15 +242,15 @@ items_of count front (a ∷ sources) (x ∷ items) h room e =
     let others = items_of count (front ++ x ∷ []) sources items h.1 room_after (omega (arith, e, long)) in
     (step_of (is_after_wide front) count (length front) x items h.0.1 (subst (λ (b : Bool). AreItems b items) (after_is front x) others.0), rw (h.0.0, others.1) refl)
 
-wide_more : (b : Bool) (items : List PoolItem) (i count : ℕ) → AreItems b items → b ≡ true → i + suc (length items) ≡ count → nat_lt (i + 1) count ≡ true
+wide_more : (b : Bool) (items : List PoolItem) (i count : ℕ) → AreItems b items → b ≡ true → i + suc (length items) ≤ count → nat_lt (i + 1) count ≡ true
 wide_more b [] i count h w e = absurd cc
 wide_more b (x ∷ items) i count h w e = grind (arith, nat_tests)
 
-next_of : (b : Bool) (count i : ℕ) (x : PoolItem) (items : List PoolItem) → AreItems b (x ∷ items) → i + suc (length items) ≡ count → NextBy b count i x × AreItems (is_wide x) items
+pub next_of : (b : Bool) (count i : ℕ) (x : PoolItem) (items : List PoolItem) → AreItems b (x ∷ items) → i + suc (length items) ≤ count → NextBy b count i x × AreItems (is_wide x) items
 next_of true count i x items h e = (h.0, subst (λ (y : PoolItem). AreItems (is_wide y) items) (sym h.0) h.1)
 next_of false count i x items h e = ((h.0, λ w. wide_more (is_wide x) items i count h.1 w e), h.1)
 
-spelled_items : (count : ℕ) (front items : List PoolItem) → AreItems (is_after_wide front) items → length front + length items ≡ count → Spelled (IsNext count) front items items
+pub spelled_items : (count : ℕ) (front items : List PoolItem) → AreItems (is_after_wide front) items → length front + length items ≤ count → Spelled (IsNext count) front items items
 spelled_items count front [] h e = tt
 spelled_items count front (x ∷ items) h e =
     let next = next_of (is_after_wide front) count (length front) x items h e in

@@ -1,58 +1,20 @@
 -- What a reader takes is what is spelled, and what is spelled is read again.
-use Rattle.std.proofs.Common.{◌≡◌, ℕ, ◌+◌, ◌^◌, ◌<◌, ◌≤◌, ◌%◌, Bool, true, false, not, cond, ltb, List, [], ◌∷◌, ◌++◌, length, take, drop, Option, Some, None, Result, Ok, Err, refl, sym, ap, subst, ◌∙◌, ◌⊎◌, append_assoc, arith, inl, inr}
+use Rattle.std.proofs.Common.{◌≡◌, ℕ, ◌^◌, ◌<◌, ◌≤◌, ◌%◌, Bool, true, false, cond, ltb, List, [], ◌∷◌, ◌++◌, length, take, drop, Result, Ok, Err, refl, sym, ap, subst, ◌∙◌, append_assoc, arith}
 use Rattle.std.specs.Int.{Width, w8, w16, w32, w64, byte_len, from_be_bytes, to_be_bytes}
-use Rattle.std.proofs.lemmas.Bool.{cases_lt, ltb-false, le-ltb}
-use Rattle.std.proofs.lemmas.List.{take_at, drop_at, take-append-drop, length-append, length-take, get_or-drop, get_or-take, get_or_past}
+use Rattle.std.proofs.lemmas.Bool.{ltb-false, le-ltb}
+use Rattle.std.proofs.lemmas.List.{take_at, drop_at, take-append-drop, length-append, length-take}
 use Rattle.std.proofs.lemmas.Nat.{be_bytes_2, be_bytes_4, be_bytes_8, from_be_bytes-to_be_bytes_2, from_be_bytes-to_be_bytes_4, from_be_bytes-to_be_bytes_8}
 use Rattle.class_file.specs.declared.error.ClassErr.{ClassErr}
 use Rattle.class_file.specs.declared.error.ClassErr.TheVariants.{Cut}
-use Rattle.class_file.specs.Reading.{Place, ◌>>=◌, need, want, number_at, bytes_at}
-use Rattle.class_file.specs.Meaning.{AreBytes}
-
-pub AreBytes-drop : (n : ℕ) (bytes : List ℕ) → AreBytes bytes → AreBytes (drop n bytes)
-AreBytes-drop n bytes h i = rw get_or-drop (h (n + i))
-
-pub AreBytes-take : (n : ℕ) (bytes : List ℕ) → AreBytes bytes → AreBytes (take n bytes)
-AreBytes-take n bytes h i =
-    elim (cases_lt i n) [
-      | inl lt ↦ rw (get_or-take n bytes i 0 lt) (h i)
-      | inr le ↦ rw (get_or_past (take n bytes) i 0 (omega (arith, length-take n bytes))) (omega arith)
-    ]
+use Rattle.class_file.specs.Reading.{Place, number_at, bytes_at}
+use Rattle.class_format.specs.Meaning.{AreBytes}
+use Rattle.class_format.proofs.Bytes.{AreBytes-drop, AreBytes-take}
 
 -- ---- steps
-
--- the value of a step that did not fail
-pub bind_ok : {A B : Type 0} (r : Result A ClassErr) (f : A → Result B ClassErr) (y : B) → (r >>= f) ≡ Ok y → (x : A) × (r ≡ Ok x) × (f x ≡ Ok y)
-bind_ok (Ok x) f y e = (x, refl, e)
-bind_ok (Err d) f y e = absurd cc
-
--- a test that held
-pub need_ok : {B : Type 0} (b : Bool) (d : ClassErr) (f : Unit {0} → Result B ClassErr) (y : B) → (need b d >>= f) ≡ Ok y → (b ≡ true) × (f tt ≡ Ok y)
-need_ok true d f y e = (refl, e)
-need_ok false d f y e = absurd cc
-
--- a value that was there
-pub want_ok : {A B : Type 0} (o : Option A) (d : ClassErr) (f : A → Result B ClassErr) (y : B) → (want o d >>= f) ≡ Ok y → (x : A) × (o ≡ Some x) × (f x ≡ Ok y)
-want_ok (Some x) d f y e = (x, refl, e)
-want_ok None d f y e = absurd cc
 
 pub guard_ok : {A : Type 0} (b : Bool) (d : ClassErr) (x y : A) → cond b (Err d) (Ok x) ≡ Ok y → (b ≡ false) × (x ≡ y)
 guard_ok true d x y e = absurd cc
 guard_ok false d x y e = (refl, cc)
-
-pub chosen : {A : Type 0} (b : Bool) (x y z : A) → cond b x y ≡ z → ((b ≡ true) × (x ≡ z)) ⊎ ((b ≡ false) × (y ≡ z))
-chosen true x y z e = inl (refl, e)
-chosen false x y z e = inr (refl, e)
-
-pub not_true : (b : Bool) → not b ≡ true → b ≡ false
-not_true true e = absurd cc
-not_true false e = refl
-
-abbrev done : {A : Type 0} → A → Result A ClassErr
-done x = Ok x
-
-pub ok_is : {A : Type 0} (x y : A) → done x ≡ done y → x ≡ y
-ok_is x y e = cc
 
 -- ---- places
 
@@ -171,14 +133,7 @@ read1 = record {
   again = λ n t rest lt. ap (λ (b : ℕ). number_at w8 (at t (b ∷ rest))) (sym (small_is n lt)) ∙ read_byte.again n t rest lt;
 }
 
--- ---- steps that go on
-
-pub bind_then : {A B : Type 0} (r : Result A ClassErr) (x : A) (f : A → Result B ClassErr) (y : Result B ClassErr) → r ≡ Ok x → f x ≡ y → (r >>= f) ≡ y
-bind_then r x f y e h = ap (λ r. r >>= f) e ∙ h
-
-pub need_then : {B : Type 0} (b : Bool) (d : ClassErr) (f : Unit {0} → Result B ClassErr) (y : Result B ClassErr) → b ≡ true → f tt ≡ y → (need b d >>= f) ≡ y
-need_then true d f y e h = h
-need_then false d f y e h = absurd cc
+-- ---- lists side by side
 
 pub regroup3 : {A : Type 0} (a b c rest : List A) → (a ++ b ++ c) ++ rest ≡ a ++ (b ++ (c ++ rest))
 regroup3 a b c rest = append_assoc (a ++ b) c rest ∙ append_assoc a b (c ++ rest)

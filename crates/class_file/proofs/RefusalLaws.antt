@@ -6,38 +6,26 @@ use Rattle.std.specs.Prelude.{nat_eq}
 use Rattle.std.proofs.lemmas.Bool.{eqb-true}
 use Rattle.std.proofs.lemmas.Bool.Decides.{nat_tests}
 use Rattle.jvm_base.specs.declared.pool.PoolItem.{PoolItem}
-use Rattle.class_file.specs.declared.class.ClassFile.{ClassFile}
+use Rattle.jvm_base.proofs.Refusing.{bind_then, ok_is, bind_err, need_err, fails_then}
+use Rattle.jvm_base.proofs.Options.{not_false}
+use Rattle.class_format.specs.declared.class.ClassFile.{ClassFile}
 use Rattle.class_file.specs.declared.error.ClassErr.{ClassErr}
 use Rattle.class_file.specs.declared.error.ClassErr.TheVariants as errors
-use Rattle.class_file.specs.ClassReading.{is_other_version, version_at, linked, names_at, members_at, class_body_at, class_at}
-use Rattle.class_file.specs.Links.{bad_link}
-use Rattle.class_file.specs.Meaning.{AreBytes}
+use Rattle.class_format.specs.Versions.{is_other_version}
+use Rattle.class_file.specs.ClassReading.{version_at, linked, names_at, members_at, class_body_at, class_at}
+use Rattle.constant_pool.specs.Links.{bad_link}
+use Rattle.class_format.specs.Meaning.{AreBytes}
 use Rattle.class_file.specs.MemberReading.{other_at, field_at, method_at}
 use Rattle.class_file.specs.PoolReading.{pool_at}
 use Rattle.class_file.specs.Reading.{Place, offset_of, ◌>>=◌, need, number_at, counted_at, listed_at}
 use Rattle.class_file.specs.Refusals.{HasExtra, HasOtherVersion, HasBadLink}
-use Rattle.class_file.specs.Spelling.{number2, number4, item_bytes, pool_bytes, source_bytes}
+use Rattle.class_format.specs.Spelling.{number2, number4, item_bytes, pool_bytes, source_bytes}
 use Rattle.class_file.proofs.ClassLaws.{version_bytes, version_takes, version_again, body_takes, body_again}
 use Rattle.class_file.proofs.PoolLaws.{has_link, pool_takes, pool_again}
-use Rattle.class_file.proofs.ReadLaws.{bind_then, regroup3, ok_is, at, Takes, Takes-then, read2, read4}
-use Rattle.class_file.proofs.Refusals.{OfVersion, OfPool, OfMembers, members_allow, Keeps, then_keeps, ok_keeps, number_keeps, version_keeps, pool_keeps, names_keep, fields_keep, methods_keep, others_keep}
+use Rattle.class_file.proofs.ReadLaws.{regroup3, at, Takes, Takes-then, read2, read4}
+use Rattle.class_file.proofs.Refusals.{OfVersion, OfPool, OfMembers, members_allow, members_allow_members, members_allow_codes, Keeps, then_keeps, ok_keeps, number_keeps, version_keeps, pool_keeps, names_keep, fields_keep, methods_keep, others_keep}
 
 -- ---- steps that refuse
-
-pub bind_err : {A B : Type 0} (r : Result A ClassErr) (f : A → Result B ClassErr) (e : ClassErr) → (r >>= f) ≡ Err e → (r ≡ Err e) ⊎ ((x : A) × (r ≡ Ok x) × (f x ≡ Err e))
-bind_err (Ok x) f e h = inr (x, refl, h)
-bind_err (Err d) f e h = inl (let same : d ≡ e = cc in ap Err same)
-
-pub need_err : {B : Type 0} (b : Bool) (d : ClassErr) (f : Unit {0} → Result B ClassErr) (e : ClassErr) → (need b d >>= f) ≡ Err e → ((b ≡ false) × (d ≡ e)) ⊎ ((b ≡ true) × (f tt ≡ Err e))
-need_err true d f e h = inr (refl, h)
-need_err false d f e h = inl (refl, cc)
-
-fails_then : {A B : Type 0} (r : Result A ClassErr) (f : A → Result B ClassErr) (e : ClassErr) → r ≡ Err e → (r >>= f) ≡ Err e
-fails_then r f e h = ap (λ r. r >>= f) h
-
-pub not_false : (b : Bool) → not b ≡ false → b ≡ true
-not_false true e = refl
-not_false false e = absurd cc
 
 pub kept_err : {X : Type 0} (t : ℕ) (May : ClassErr → Type 0) (r : Result (X × Place) ClassErr) (e : ClassErr) → Keeps t May r → r ≡ Err e → May e
 kept_err t May (Ok x) e h k = absurd cc
@@ -59,9 +47,9 @@ members_refuse t pool p e same h =
     elim (linked_err (bad_link pool) _ e h) [
       | inl bad ↦ inl bad
       | inr good ↦ inr (kept_err t (OfMembers t) _ e
-          (then_keeps t (OfMembers t) (names_at pool p) _ (names_keep t (OfMembers t) (members_allow t) pool p same) (λ names k.
-          then_keeps t (OfMembers t) (listed_at (field_at pool) names.1) _ (fields_keep t (OfMembers t) (members_allow t) pool (λ n. tt) names.1 k) (λ fields m.
-          then_keeps t (OfMembers t) (listed_at (method_at pool) fields.1) _ (methods_keep t (OfMembers t) (members_allow t) pool (λ n. tt) fields.1 m) (λ methods n.
+          (then_keeps t (OfMembers t) (names_at pool p) _ (names_keep t (OfMembers t) (members_allow t) pool (λ n. tt) p same) (λ names k.
+          then_keeps t (OfMembers t) (listed_at (field_at pool) names.1) _ (fields_keep t (OfMembers t) (members_allow t) pool (members_allow_members t) names.1 k) (λ fields m.
+          then_keeps t (OfMembers t) (listed_at (method_at pool) fields.1) _ (methods_keep t (OfMembers t) (members_allow t) pool (members_allow_members t) (members_allow_codes t) fields.1 m) (λ methods n.
           then_keeps t (OfMembers t) (counted_at (other_at pool) tt methods.1) _ (others_keep t (OfMembers t) (members_allow t) pool methods.1 n) (λ others o.
           ok_keeps t (OfMembers t) _ _ o))))) good.1)
     ]
@@ -149,6 +137,24 @@ cut_is bytes n h =
       ]
     ]
 
+-- ---- want of memory
+
+pub never_memory : (bytes : List ℕ) → ¬ (class_at bytes ≡ Err errors.NoMemory)
+never_memory bytes h =
+    elim (class_refuses bytes errors.NoMemory h) [
+      | inr behind ↦ absurd (let k = behind.extra in cc)
+      | inl refuses ↦ elim refuses [
+        | inl version ↦ of_version bytes errors.NoMemory version
+        | inr later ↦ elim later [
+          | inl pool ↦ pool
+          | inr last ↦ elim last [
+            | inl link ↦ absurd (let k = link.is in cc)
+            | inr members ↦ members
+          ]
+        ]
+      ]
+    ]
+
 -- ---- what follows a class file
 
 positive : (n : ℕ) → eqb n 0 ≡ false → 0 < n
@@ -187,7 +193,7 @@ extra_is bytes n fits h =
       ]
     ]
 
-need_no : {B : Type 0} (b : Bool) (d : ClassErr) (f : Unit {0} → Result B ClassErr) (y : Result B ClassErr) → b ≡ false → Err d ≡ y → (need b d >>= f) ≡ y
+pub need_no : {B : Type 0} (b : Bool) (d : ClassErr) (f : Unit {0} → Result B ClassErr) (y : Result B ClassErr) → b ≡ false → Err d ≡ y → (need b d >>= f) ≡ y
 need_no true d f y e h = absurd cc
 need_no false d f y e h = h
 

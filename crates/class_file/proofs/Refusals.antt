@@ -8,18 +8,20 @@ use Rattle.jvm_base.specs.declared.pool.PoolItem.{PoolItem}
 use Rattle.jvm_base.specs.declared.pool.PoolItem.TheVariants.{Gap, Integer, Float, Long, Double, Class, Text, Field, Method, InterfaceMethod, NameAndKind}
 use Rattle.jvm_base.specs.Text.{units_of}
 use Rattle.class_file.specs.declared.attribute.AttributeHead.{AttributeHead}
-use Rattle.class_file.specs.declared.class.FieldItem.{FieldItem}
-use Rattle.class_file.specs.declared.class.MethodItem.{MethodItem}
+use Rattle.class_format.specs.declared.class.FieldItem.{FieldItem}
+use Rattle.class_format.specs.declared.class.MethodItem.{MethodItem}
 use Rattle.class_file.specs.declared.error.ClassErr.{ClassErr}
 use Rattle.class_file.specs.declared.error.ClassErr.TheVariants as errors
 use Rattle.class_file.specs.declared.head.Head.{Head}
-use Rattle.class_file.specs.declared.head.MemberKind.{MemberKind}
-use Rattle.class_file.specs.declared.head.MemberKind.TheVariants as kinds
-use Rattle.class_file.specs.ClassReading.{is_other_version, version_at, class_index_at, super_index_at, interface_at, names_at}
-use Rattle.class_file.specs.Flags.{is_static, class_flags_clash}
-use Rattle.class_file.specs.Links.{is_text_at, is_text_that, is_class_at}
+use Rattle.class_format.specs.declared.member_kind.MemberKind.{MemberKind}
+use Rattle.class_format.specs.declared.member_kind.MemberKind.TheVariants as kinds
+use Rattle.class_format.specs.Versions.{is_other_version}
+use Rattle.class_file.specs.ClassReading.{version_at, class_index_at, super_index_at, interface_at, names_at}
+use Rattle.class_format.specs.Flags.{is_static, class_flags_clash}
+use Rattle.constant_pool.specs.Items.{is_text_at, is_text_that, is_class_at}
 use Rattle.class_file.specs.MemberReading.{attribute_at, skipped_at, other_at, head_at, new_head_at, constant_at, field_attribute_at, field_at, table_item_at, code_contents_at, code_at, another_code_at, method_attribute_at, method_at}
-use Rattle.class_file.specs.Members.{is_named, is_code, is_constant_value, is_without_receiver, is_desc_of, flags_clash, is_among, field_keys, method_keys, is_constant_at, code_count}
+use Rattle.constant_pool.specs.KnownTexts.{is_named, is_code, is_constant_value, is_constant_at}
+use Rattle.class_format.specs.Members.{is_without_receiver, is_desc_of, flags_clash, is_among, field_keys, method_keys, code_count}
 use Rattle.class_file.specs.PoolReading.{is_after_wide, text_item_at, number_item_at, wide_item_at, two_indices_at, pair_item_at, content_at, item_at, next_item_at, pool_at}
 use Rattle.class_file.specs.Reading.{Place, offset_of, ◌>>=◌, need, want, number_at, bytes_at, each_at, counted_at, adding, listed_at}
 
@@ -170,29 +172,56 @@ module _ (t : ℕ) where
   unfolding pool_at
   pool_keeps count p e = each_keeps t (OfPool t) refl (adding (next_item_at count)) (adding_keeps t (OfPool t) refl (next_item_at count) (next_keeps count)) (count - 1) (Gap ∷ []) p e
 
--- of the same, but for two alike
-abbrev pub OfContents : ℕ → ClassErr → Type 0
-OfContents t (errors.Cut n) = n ≡ t
-OfContents t (errors.ItemLink n) = Unit {0}
-OfContents t (errors.Flags n) = Unit {0}
-OfContents t (errors.AttrLength n) = Unit {0}
-OfContents t (errors.CodeLength m) = Unit {0}
-OfContents t (errors.CodeCount m) = Unit {0}
-OfContents t _ = ⊥
+-- of numbers that name items
+abbrev pub OfLinks : ℕ → ClassErr → Type 0
+OfLinks t (errors.Cut n) = n ≡ t
+OfLinks t (errors.ItemLink n) = Unit {0}
+OfLinks t _ = ⊥
+
+-- of the flags and names of the class
+abbrev pub OfNames : ℕ → ClassErr → Type 0
+OfNames t (errors.Flags n) = Unit {0}
+OfNames t e = OfLinks t e
+
+-- of fields
+abbrev pub OfFields : ℕ → ClassErr → Type 0
+OfFields t (errors.AttrLength n) = Unit {0}
+OfFields t (errors.Twice n) = Unit {0}
+OfFields t e = OfNames t e
 
 pub record Allows (t : ℕ) (May : ClassErr → Type 0) : Type 0 where
   pub cut : May (errors.Cut t)
   pub link : (n : ℕ) → May (errors.ItemLink n)
+
+pub record AllowsMembers (May : ClassErr → Type 0) : Type 0 where
   pub flags : (n : ℕ) → May (errors.Flags n)
-  pub length : (n : ℕ) → May (errors.AttrLength n)
-  pub code_length : (m : ℕ) → May (errors.CodeLength m)
-  pub code_count : (m : ℕ) → May (errors.CodeCount m)
+  pub twice : (n : ℕ) → May (errors.Twice n)
+  pub size : (n : ℕ) → May (errors.AttrLength n)
+
+pub record AllowsCodes (May : ClassErr → Type 0) : Type 0 where
+  pub length : (m : ℕ) → May (errors.CodeLength m)
+  pub count : (m : ℕ) → May (errors.CodeCount m)
 
 pub members_allow : (t : ℕ) → Allows t (OfMembers t)
-members_allow t = record { cut = refl; link = λ n. tt; flags = λ n. tt; length = λ n. tt; code_length = λ m. tt; code_count = λ m. tt }
+members_allow t = record { cut = refl; link = λ n. tt }
 
-pub contents_allow : (t : ℕ) → Allows t (OfContents t)
-contents_allow t = record { cut = refl; link = λ n. tt; flags = λ n. tt; length = λ n. tt; code_length = λ m. tt; code_count = λ m. tt }
+pub members_allow_members : (t : ℕ) → AllowsMembers (OfMembers t)
+members_allow_members t = record { flags = λ n. tt; twice = λ n. tt; size = λ n. tt }
+
+pub members_allow_codes : (t : ℕ) → AllowsCodes (OfMembers t)
+members_allow_codes t = record { length = λ m. tt; count = λ m. tt }
+
+pub fields_allow : (t : ℕ) → Allows t (OfFields t)
+fields_allow t = record { cut = refl; link = λ n. tt }
+
+pub fields_allow_members : (t : ℕ) → AllowsMembers (OfFields t)
+fields_allow_members t = record { flags = λ n. tt; twice = λ n. tt; size = λ n. tt }
+
+pub names_allow : (t : ℕ) → Allows t (OfNames t)
+names_allow t = record { cut = refl; link = λ n. tt }
+
+pub links_allow : (t : ℕ) → Allows t (OfLinks t)
+links_allow t = record { cut = refl; link = λ n. tt }
 
 -- ---- fields and methods
 
@@ -218,41 +247,41 @@ module _ (t : ℕ) (May : ClassErr → Type 0) (allow : Allows t May) (pool : Li
   pub others_keep : Membered (counted_at (other_at pool) tt)
   others_keep = counted_keeps t May allow.cut (other_at pool) other_keeps tt
 
-  pub plain_head_keeps : (kind : MemberKind) → Membered (head_at kind pool)
+  plain_head_keeps : ((n : ℕ) → May (errors.Flags n)) → (kind : MemberKind) → Membered (head_at kind pool)
   unfolding head_at
-  plain_head_keeps kind p e =
+  plain_head_keeps may_flags kind p e =
       then_keeps t May (number_at w16 p) _ (number_keeps t May allow.cut w16 p e) (λ flags k.
       then_keeps t May (number_at w16 flags.1) _ (number_keeps t May allow.cut w16 flags.1 k) (λ name m.
       then_keeps t May (number_at w16 name.1) _ (number_keeps t May allow.cut w16 name.1 m) (λ desc n.
       need_keeps t May (is_text_that is_named pool name.0) (errors.ItemLink (offset_of flags.1)) _ (allow.link _)
       (need_keeps t May (is_desc_of kind (is_without_receiver pool flags.0 name.0) pool desc.0) (errors.ItemLink (offset_of name.1)) _ (allow.link _)
-      (need_keeps t May (not (flags_clash kind (is_without_receiver pool flags.0 name.0) flags.0)) (errors.Flags (offset_of p)) _ (allow.flags _) (ok_keeps t May _ _ n))))))
+      (need_keeps t May (not (flags_clash kind (is_without_receiver pool flags.0 name.0) flags.0)) (errors.Flags (offset_of p)) _ (may_flags _) (ok_keeps t May _ _ n))))))
 
-  pub head_keeps : ((n : ℕ) → May (errors.Twice n)) → (kind : MemberKind) (earlier : List (ℕ × ℕ)) → Membered (new_head_at kind pool earlier)
+  pub head_keeps : AllowsMembers May → (kind : MemberKind) (earlier : List (ℕ × ℕ)) → Membered (new_head_at kind pool earlier)
   unfolding new_head_at
-  head_keeps twice kind earlier p e =
-      then_keeps t May (head_at kind pool p) _ (plain_head_keeps kind p e)
-      (λ head k. need_keeps t May (not (is_among pool earlier head.0.name head.0.desc)) (errors.Twice (offset_of p)) _ (twice _) (ok_keeps t May _ _ k))
+  head_keeps members kind earlier p e =
+      then_keeps t May (head_at kind pool p) _ (plain_head_keeps members.flags kind p e)
+      (λ head k. need_keeps t May (not (is_among pool earlier head.0.name head.0.desc)) (errors.Twice (offset_of p)) _ (members.twice _) (ok_keeps t May _ _ k))
 
-  pub field_attribute_keeps : (head : Head) (kept : Option ℕ) → Membered (field_attribute_at pool head kept)
+  field_attribute_keeps : ((n : ℕ) → May (errors.AttrLength n)) → (head : Head) (kept : Option ℕ) → Membered (field_attribute_at pool head kept)
   unfolding field_attribute_at constant_at
-  field_attribute_keeps head kept p e =
+  field_attribute_keeps may_size head kept p e =
       then_keeps t May (attribute_at pool p) _ (attribute_keeps p e) (λ a k.
       cond_keeps t May (is_static head.flags && is_text_that is_constant_value pool a.0.name) _ _
-      (need_keeps t May (not (is_some kept)) (errors.AttrLength a.0.at) _ (allow.length _)
+      (need_keeps t May (not (is_some kept)) (errors.AttrLength a.0.at) _ (may_size _)
       (then_keeps t May (number_at w16 a.1) _ (number_keeps t May allow.cut w16 a.1 k) (λ value m.
       need_keeps t May (is_constant_at pool head.desc value.0) (errors.ItemLink (offset_of a.1)) _ (allow.link _)
-      (need_keeps t May (nat_eq a.0.len 2) (errors.AttrLength a.0.at) _ (allow.length _) (ok_keeps t May _ _ m)))))
+      (need_keeps t May (nat_eq a.0.len 2) (errors.AttrLength a.0.at) _ (may_size _) (ok_keeps t May _ _ m)))))
       (skipped_keeps kept a.0 a.1 k))
 
-  field_keeps : ((n : ℕ) → May (errors.Twice n)) → (earlier : List FieldItem) → Membered (field_at pool earlier)
+  field_keeps : AllowsMembers May → (earlier : List FieldItem) → Membered (field_at pool earlier)
   unfolding field_at
-  field_keeps twice earlier p e =
-      then_keeps t May (new_head_at kinds.Field pool (field_keys earlier) p) _ (head_keeps twice kinds.Field (field_keys earlier) p e) (λ head k.
-      then_keeps t May (counted_at (field_attribute_at pool head.0) None head.1) _ (counted_keeps t May allow.cut (field_attribute_at pool head.0) (field_attribute_keeps head.0) None head.1 k) (λ constant m. ok_keeps t May _ _ m))
+  field_keeps members earlier p e =
+      then_keeps t May (new_head_at kinds.Field pool (field_keys earlier) p) _ (head_keeps members kinds.Field (field_keys earlier) p e) (λ head k.
+      then_keeps t May (counted_at (field_attribute_at pool head.0) None head.1) _ (counted_keeps t May allow.cut (field_attribute_at pool head.0) (field_attribute_keeps members.size head.0) None head.1 k) (λ constant m. ok_keeps t May _ _ m))
 
-  pub fields_keep : ((n : ℕ) → May (errors.Twice n)) → Membered (listed_at (field_at pool))
-  fields_keep twice = counted_keeps t May allow.cut (adding (field_at pool)) (adding_keeps t May allow.cut (field_at pool) (field_keeps twice)) []
+  pub fields_keep : AllowsMembers May → Membered (listed_at (field_at pool))
+  fields_keep members = counted_keeps t May allow.cut (adding (field_at pool)) (adding_keeps t May allow.cut (field_at pool) (field_keeps members)) []
 
   entry_keeps : (earlier : List TableItem) → Membered (table_item_at pool earlier)
   unfolding table_item_at
@@ -263,36 +292,36 @@ module _ (t : ℕ) (May : ClassErr → Type 0) (allow : Allows t May) (pool : Li
       then_keeps t May (number_at w16 handler.1) _ (number_keeps t May allow.cut w16 handler.1 n) (λ class o.
       need_keeps t May (nat_eq class.0 0 || is_class_at pool class.0) (errors.ItemLink (offset_of handler.1)) _ (allow.link _) (ok_keeps t May _ _ o)))))
 
-  code_keeps : (m : ℕ) (a : AttributeHead) → Membered (code_at pool m a)
+  code_keeps : ((n : ℕ) → May (errors.AttrLength n)) → ((m : ℕ) → May (errors.CodeLength m)) → (m : ℕ) (a : AttributeHead) → Membered (code_at pool m a)
   unfolding code_at code_contents_at
-  code_keeps m a p e =
+  code_keeps may_size may_length m a p e =
       then_keeps t May (code_contents_at pool m p) _
       (then_keeps t May (number_at w16 p) _ (number_keeps t May allow.cut w16 p e) (λ stack k.
       then_keeps t May (number_at w16 stack.1) _ (number_keeps t May allow.cut w16 stack.1 k) (λ locals l.
       then_keeps t May (number_at w32 locals.1) _ (number_keeps t May allow.cut w32 locals.1 l) (λ len n.
-      need_keeps t May (nat_lt 0 len.0 && nat_lt len.0 65536) (errors.CodeLength m) _ (allow.code_length _)
+      need_keeps t May (nat_lt 0 len.0 && nat_lt len.0 65536) (errors.CodeLength m) _ (may_length _)
       (then_keeps t May (bytes_at len.0 len.1) _ (bytes_keep t May allow.cut len.0 len.1 n) (λ code o.
       then_keeps t May (listed_at (table_item_at pool) code.1) _ (counted_keeps t May allow.cut (adding (table_item_at pool)) (adding_keeps t May allow.cut (table_item_at pool) entry_keeps) [] code.1 o) (λ table q.
       then_keeps t May (counted_at (other_at pool) tt table.1) _ (others_keep table.1 q) (λ others r. ok_keeps t May _ _ r))))))))
-      (λ code k. need_keeps t May (nat_eq (length p.rest) (a.len + length code.1.rest)) (errors.AttrLength a.at) _ (allow.length _) (ok_keeps t May _ _ k))
+      (λ code k. need_keeps t May (nat_eq (length p.rest) (a.len + length code.1.rest)) (errors.AttrLength a.at) _ (may_size _) (ok_keeps t May _ _ k))
 
-  pub method_attribute_keeps : (m : ℕ) (codes : List CodeItem) → Membered (method_attribute_at pool m codes)
+  method_attribute_keeps : ((n : ℕ) → May (errors.AttrLength n)) → ((m : ℕ) → May (errors.CodeLength m)) → (m : ℕ) (codes : List CodeItem) → Membered (method_attribute_at pool m codes)
   unfolding method_attribute_at another_code_at
-  method_attribute_keeps m codes p e =
+  method_attribute_keeps may_size may_length m codes p e =
       then_keeps t May (attribute_at pool p) _ (attribute_keeps p e) (λ a k.
       cond_keeps t May (is_text_that is_code pool a.0.name) _ _
-      (then_keeps t May (code_at pool m a.0 a.1) _ (code_keeps m a.0 a.1 k) (λ code n. ok_keeps t May _ _ n))
+      (then_keeps t May (code_at pool m a.0 a.1) _ (code_keeps may_size may_length m a.0 a.1 k) (λ code n. ok_keeps t May _ _ n))
       (skipped_keeps codes a.0 a.1 k))
 
-  method_keeps : ((n : ℕ) → May (errors.Twice n)) → (earlier : List MethodItem) → Membered (method_at pool earlier)
+  method_keeps : AllowsMembers May → AllowsCodes May → (earlier : List MethodItem) → Membered (method_at pool earlier)
   unfolding method_at
-  method_keeps twice earlier p e =
-      then_keeps t May (new_head_at kinds.Method pool (method_keys earlier) p) _ (head_keeps twice kinds.Method (method_keys earlier) p e) (λ head k.
-      then_keeps t May (counted_at (method_attribute_at pool (length earlier)) [] head.1) _ (counted_keeps t May allow.cut (method_attribute_at pool (length earlier)) (method_attribute_keeps (length earlier)) [] head.1 k) (λ codes m.
-      need_keeps t May (eqb (length codes.0) (code_count head.0.flags)) (errors.CodeCount (length earlier)) _ (allow.code_count _) (ok_keeps t May _ _ m)))
+  method_keeps members bodies earlier p e =
+      then_keeps t May (new_head_at kinds.Method pool (method_keys earlier) p) _ (head_keeps members kinds.Method (method_keys earlier) p e) (λ head k.
+      then_keeps t May (counted_at (method_attribute_at pool (length earlier)) [] head.1) _ (counted_keeps t May allow.cut (method_attribute_at pool (length earlier)) (method_attribute_keeps members.size bodies.length (length earlier)) [] head.1 k) (λ codes m.
+      need_keeps t May (eqb (length codes.0) (code_count head.0.flags)) (errors.CodeCount (length earlier)) _ (bodies.count _) (ok_keeps t May _ _ m)))
 
-  pub methods_keep : ((n : ℕ) → May (errors.Twice n)) → Membered (listed_at (method_at pool))
-  methods_keep twice = counted_keeps t May allow.cut (adding (method_at pool)) (adding_keeps t May allow.cut (method_at pool) (method_keeps twice)) []
+  pub methods_keep : AllowsMembers May → AllowsCodes May → Membered (listed_at (method_at pool))
+  methods_keep members bodies = counted_keeps t May allow.cut (adding (method_at pool)) (adding_keeps t May allow.cut (method_at pool) (method_keeps members bodies)) []
 
   index_keeps : Membered (class_index_at pool)
   unfolding class_index_at
@@ -310,11 +339,11 @@ module _ (t : ℕ) (May : ClassErr → Type 0) (allow : Allows t May) (pool : Li
   unfolding interface_at
   interface_keeps earlier p e = index_keeps p e
 
-  pub names_keep : Membered (names_at pool)
+  pub names_keep : ((n : ℕ) → May (errors.Flags n)) → Membered (names_at pool)
   unfolding names_at
-  names_keep p e =
+  names_keep may_flags p e =
       then_keeps t May (number_at w16 p) _ (number_keeps t May allow.cut w16 p e) (λ flags k.
-      need_keeps t May (not (class_flags_clash flags.0)) (errors.Flags (offset_of p)) _ (allow.flags _)
+      need_keeps t May (not (class_flags_clash flags.0)) (errors.Flags (offset_of p)) _ (may_flags _)
       (then_keeps t May (class_index_at pool flags.1) _ (index_keeps flags.1 k) (λ this m.
       then_keeps t May (super_index_at pool this.1) _ (super_keeps this.1 m) (λ super n.
       then_keeps t May (listed_at (interface_at pool) super.1) _ (counted_keeps t May allow.cut (adding (interface_at pool)) (adding_keeps t May allow.cut (interface_at pool) interface_keeps) [] super.1 n) (λ list o. ok_keeps t May _ _ o)))))

@@ -1,24 +1,23 @@
 -- A class file, read from front to back (JVMS2 4.1).
-use Rattle.std.specs.Prelude.{ℕ, List, length, Option, Some, None, Result, Ok, Err, nat_eq, nat_lt, Bool, not, ◌&&◌, ◌||◌, ◌==◌}
+use Rattle.std.specs.Prelude.{ℕ, List, length, Option, Some, None, Result, Ok, Err, nat_eq, not, ◌||◌, ◌==◌}
 use Rattle.std.specs.Int.{w16, w32}
 use Rattle.jvm_base.specs.declared.pool.PoolItem.{PoolItem}
 use Rattle.class_file.specs.declared.error.ClassErr.{ClassErr}
 use Rattle.class_file.specs.declared.error.ClassErr.TheVariants.{Magic, Version, PoolLink, ItemLink, Flags, Extra}
-use Rattle.class_file.specs.declared.class.ClassFile.{ClassFile}
+use Rattle.class_format.specs.declared.class.ClassFile.{ClassFile}
 use Rattle.class_file.specs.declared.class_reader.Members.{Members}
 use Rattle.class_file.specs.declared.class_reader.Names.{Names}
-use Rattle.class_file.specs.Flags.{class_flags_clash}
-use Rattle.class_file.specs.Links.{is_class_at, bad_link}
+use Rattle.class_format.specs.Flags.{class_flags_clash}
+use Rattle.class_format.specs.Versions.{is_other_version}
+use Rattle.constant_pool.specs.Items.{is_class_at}
+use Rattle.constant_pool.specs.Links.{bad_link}
 use Rattle.class_file.specs.MemberReading.{other_at, field_at, method_at}
 use Rattle.class_file.specs.PoolReading.{pool_at}
 use Rattle.class_file.specs.Reading.{Place, offset_of, ◌>>=◌, need, number_at, counted_at, listed_at}
 
 -- ---- versions
 
--- this project's own: the majors 45 to 48, and above 45 no minor version but 0
-abbrev pub is_other_version : ℕ → ℕ → Bool
-is_other_version major minor = nat_lt major 45 || nat_lt 48 major || (nat_lt 45 major && not (nat_eq minor 0))
-
+-- the magic, and a version that is read: minor, major
 unfoldable pub version_at : Place → Result ((ℕ × ℕ) × Place) ClassErr
 version_at p = do
   magic ← number_at w32 p
@@ -37,6 +36,7 @@ linked (Some i) = Err (PoolLink i)
 
 -- ---- the class's own flags and links
 
+-- the index of a class item
 unfoldable pub class_index_at : List PoolItem → Place → Result (ℕ × Place) ClassErr
 class_index_at pool p = do
   class ← number_at w16 p
@@ -50,9 +50,11 @@ super_index_at pool p = do
   _ ← need (nat_eq class.0 0 || is_class_at pool class.0) (ItemLink (offset_of p))
   Ok class
 
+-- an interface that the class names; no interface is refused for being named twice
 unfoldable pub interface_at : List PoolItem → List ℕ → Place → Result (ℕ × Place) ClassErr
 interface_at pool earlier p = class_index_at pool p
 
+-- the flags of a class, and the classes that it names: itself, its superclass, its interfaces
 unfoldable pub names_at : List PoolItem → Place → Result (Names × Place) ClassErr
 names_at pool p = do
   flags ← number_at w16 p

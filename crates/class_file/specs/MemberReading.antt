@@ -7,14 +7,15 @@ use Rattle.jvm_base.specs.declared.pool.PoolItem.{PoolItem}
 use Rattle.class_file.specs.declared.error.ClassErr.{ClassErr}
 use Rattle.class_file.specs.declared.error.ClassErr.TheVariants.{ItemLink, Flags, AttrLength, CodeLength, CodeCount, Twice}
 use Rattle.class_file.specs.declared.attribute.AttributeHead.{AttributeHead}
-use Rattle.class_file.specs.declared.class.FieldItem.{FieldItem}
-use Rattle.class_file.specs.declared.class.MethodItem.{MethodItem}
+use Rattle.class_format.specs.declared.class.FieldItem.{FieldItem}
+use Rattle.class_format.specs.declared.class.MethodItem.{MethodItem}
 use Rattle.class_file.specs.declared.head.Head.{Head}
-use Rattle.class_file.specs.declared.head.MemberKind.{MemberKind}
-use Rattle.class_file.specs.declared.head.MemberKind.TheVariants.{Field, Method}
-use Rattle.class_file.specs.Flags.{is_static}
-use Rattle.class_file.specs.Links.{is_text_at, is_text_that, is_class_at}
-use Rattle.class_file.specs.Members.{is_named, is_code, is_constant_value, is_without_receiver, is_desc_of, flags_clash, is_among, field_keys, method_keys, is_constant_at, code_count}
+use Rattle.class_format.specs.declared.member_kind.MemberKind.{MemberKind}
+use Rattle.class_format.specs.declared.member_kind.MemberKind.TheVariants.{Field, Method}
+use Rattle.class_format.specs.Flags.{is_static}
+use Rattle.constant_pool.specs.Items.{is_text_at, is_text_that, is_class_at}
+use Rattle.constant_pool.specs.KnownTexts.{is_named, is_code, is_constant_value, is_constant_at}
+use Rattle.class_format.specs.Members.{is_without_receiver, is_desc_of, flags_clash, is_among, field_keys, method_keys, code_count}
 use Rattle.class_file.specs.Reading.{Place, offset_of, ◌>>=◌, need, number_at, bytes_at, counted_at, listed_at}
 
 -- ---- attributes
@@ -33,6 +34,7 @@ skipped_at s a p = do
   contents ← bytes_at a.len p
   Ok (s, contents.1)
 
+-- an attribute that is skipped whatever its name
 unfoldable pub other_at : List PoolItem → Unit {0} → Place → Result (Unit {0} × Place) ClassErr
 other_at pool s p = do
   a ← attribute_at pool p
@@ -40,6 +42,7 @@ other_at pool s p = do
 
 -- ---- what fields and methods begin with
 
+-- flags, name and descriptor of a field or method; all three are read before the first is asked
 unfoldable pub head_at : MemberKind → List PoolItem → Place → Result (Head × Place) ClassErr
 head_at kind pool p = do
   flags ← number_at w16 p
@@ -74,6 +77,7 @@ field_attribute_at pool head kept p = do
   a ← attribute_at pool p
   if is_static head.flags && is_text_that is_constant_value pool a.0.name then constant_at pool head.desc kept a.0 a.1 else skipped_at kept a.0 a.1
 
+-- a field, behind the earlier ones
 unfoldable pub field_at : List PoolItem → List FieldItem → Place → Result (FieldItem × Place) ClassErr
 field_at pool earlier p = do
   head ← new_head_at Field pool (field_keys earlier) p
@@ -82,6 +86,7 @@ field_at pool earlier p = do
 
 -- ---- methods
 
+-- an entry of the exception table; the class 0 stands for any (JVMS2 4.7.3)
 unfoldable pub table_item_at : List PoolItem → List TableItem → Place → Result (TableItem × Place) ClassErr
 table_item_at pool earlier p = do
   start ← number_at w16 p
@@ -110,16 +115,19 @@ code_at pool m a p = do
   _ ← need (nat_eq (length p.rest) (a.len + length code.1.rest)) (AttrLength a.at)
   Ok code
 
+-- one more Code attribute of method m
 unfoldable pub another_code_at : List PoolItem → ℕ → List CodeItem → AttributeHead → Place → Result (List CodeItem × Place) ClassErr
 another_code_at pool m codes a p = do
   code ← code_at pool m a p
   Ok (codes ++ code.0 ∷ [], code.1)
 
+-- an attribute of method m: each Code is kept, every other one is skipped
 unfoldable pub method_attribute_at : List PoolItem → ℕ → List CodeItem → Place → Result (List CodeItem × Place) ClassErr
 method_attribute_at pool m codes p = do
   a ← attribute_at pool p
   if is_text_that is_code pool a.0.name then another_code_at pool m codes a.0 a.1 else skipped_at codes a.0 a.1
 
+-- a method, behind the earlier ones; its number is how many they are
 unfoldable pub method_at : List PoolItem → List MethodItem → Place → Result (MethodItem × Place) ClassErr
 method_at pool earlier p = do
   head ← new_head_at Method pool (method_keys earlier) p

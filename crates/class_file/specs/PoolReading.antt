@@ -1,19 +1,15 @@
 -- The constant pool, read item by item (JVMS2 4.4).
-use Rattle.std.specs.Prelude.{ℕ, ◌+◌, ◌-◌, List, [], ◌∷◌, length, Option, Some, None, Result, Ok, Err, nat_lt, Bool, true, false, ◌==◌, if◌then◌else◌, slice_get}
+use Rattle.std.specs.Prelude.{ℕ, ◌+◌, ◌-◌, List, [], ◌∷◌, length, Option, Some, None, Result, Ok, Err, nat_lt, Bool, false, ◌==◌, if◌then◌else◌, slice_get}
 use Rattle.std.specs.Int.{Width, w8, w16, w32, w64, cast_signed}
 use Rattle.jvm_base.specs.declared.pool.PoolItem.{PoolItem}
 use Rattle.jvm_base.specs.declared.pool.PoolItem.TheVariants.{Gap, Utf8, Integer, Float, Long, Double, Class, Text, Field, Method, InterfaceMethod, NameAndKind}
 use Rattle.jvm_base.specs.Text.{units_of}
+use Rattle.constant_pool.specs.Items.{is_wide}
 use Rattle.class_file.specs.declared.error.ClassErr.{ClassErr}
 use Rattle.class_file.specs.declared.error.ClassErr.TheVariants.{PoolTag, PoolText}
 use Rattle.class_file.specs.Reading.{Place, ◌>>=◌, need, want, number_at, bytes_at, each_at, adding}
 
--- a Long or a Double takes two indices
-abbrev pub is_wide : PoolItem → Bool
-is_wide (Long n) = true
-is_wide (Double n) = true
-is_wide _ = false
-
+-- a wide item is there
 abbrev pub is_wide_there : Option PoolItem → Bool
 is_wide_there None = false
 is_wide_there (Some item) = is_wide item
@@ -22,6 +18,7 @@ is_wide_there (Some item) = is_wide item
 abbrev pub is_after_wide : List PoolItem → Bool
 is_after_wide pool = is_wide_there (slice_get pool (length pool - 1))
 
+-- a text: its length in bytes, and so many bytes of modified UTF-8
 unfoldable pub text_item_at : ℕ → Place → Result (PoolItem × Place) ClassErr
 text_item_at i p = do
   len ← number_at w16 p
@@ -29,6 +26,7 @@ text_item_at i p = do
   units ← want (units_of bytes.0) (PoolText i)
   Ok (Utf8 units, bytes.1)
 
+-- an item of one number
 abbrev pub number_item_at : Width → (ℕ → PoolItem) → Place → Result (PoolItem × Place) ClassErr
 number_item_at w item p = do
   n ← number_at w p
@@ -40,12 +38,14 @@ wide_item_at i has_room item p = do
   _ ← need has_room (PoolTag i)
   number_item_at w64 item p
 
+-- two indices, one behind the other
 unfoldable pub two_indices_at : Place → Result ((ℕ × ℕ) × Place) ClassErr
 two_indices_at p = do
   a ← number_at w16 p
   b ← number_at w16 a.1
   Ok ((a.0, b.0), b.1)
 
+-- an item of two indices
 abbrev pub pair_item_at : (ℕ → ℕ → PoolItem) → Place → Result (PoolItem × Place) ClassErr
 pair_item_at item p = do
   pair ← two_indices_at p
@@ -67,6 +67,7 @@ content_at tag i has_room p =
     else (if tag == 12 then pair_item_at NameAndKind p
     else Err (PoolTag i)))))))))))
 
+-- an item from its tag on
 unfoldable pub item_at : ℕ → Bool → Place → Result (PoolItem × Place) ClassErr
 item_at i has_room p = do
   tag ← number_at w8 p

@@ -1,23 +1,10 @@
 -- Reading from front to back, with the first refusal that is met. These words are this project's own.
-use Rattle.std.specs.Prelude.{◌≡◌, ℕ, zero, suc, List, [], ◌∷◌, ◌++◌, length, take, drop, Option, Some, None, Result, Ok, Err, nat_lt, Bool, if◌then◌else◌}
+use Rattle.std.specs.Prelude.{◌≡◌, ℕ, zero, suc, List, [], ◌∷◌, ◌++◌, length, take, drop, Result, Ok, Err, nat_lt, if◌then◌else◌}
 use Rattle.std.specs.Int.{Width, w16, byte_len, from_be_bytes}
 use Rattle.class_file.specs.declared.error.ClassErr.{ClassErr}
 use Rattle.class_file.specs.declared.error.ClassErr.TheVariants.{Cut, NoMemory}
+pub use Rattle.jvm_base.specs.Refusing.{◌>>=◌, need, want}
 pub use Rattle.class_file.specs.Place.{Place, offset_of}
-
-infixl 10 ◌>>=◌
-abbrev pub ◌>>=◌ : {A B : Type 0} → Result A ClassErr → (A → Result B ClassErr) → Result B ClassErr
-(Ok x) >>= f = f x
-(Err e) >>= f = Err e
-
--- goes on only where the test holds
-abbrev pub need : Bool → ClassErr → Result (Unit {0}) ClassErr
-need b e = if b then Ok tt else Err e
-
--- goes on only where there is a value
-abbrev pub want : {A : Type 0} → Option A → ClassErr → Result A ClassErr
-want (Some x) e = Ok x
-want None e = Err e
 
 -- what a function refused with is what reading refuses with; want of memory may come instead
 abbrev pub Fails : {Y : Type 0} → ClassErr → Result Y ClassErr → Type 0

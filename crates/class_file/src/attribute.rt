@@ -6,7 +6,7 @@ ghost use Rattle.class_file.specs.MemberReading.{attribute_at, skipped_at, other
 
 use crate::error::ClassErr;
 use crate::reader::Reader;
-use crate::texts::Texts;
+use constant_pool::Texts;
 
 /// An attribute up to its contents: the index of its name, its length, and the offset of that.
 #[derive(Clone, Copy, Debug, PartialEq, Eq)]

@@ -8,7 +8,7 @@ ghost use Rattle.class_file.specs.MemberReading.{table_item_at, code_contents_at
 use crate::attribute::{AttributeHead, other_attributes};
 use crate::error::ClassErr;
 use crate::reader::Reader;
-use crate::texts::Texts;
+use constant_pool::Texts;
 use jvm_base::{CodeItem, List, NoMemory, TableItem};
 use std::alloc::Global;
 

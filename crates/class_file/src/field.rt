@@ -1,19 +1,19 @@
 //! Fields.
 
 ghost use Rattle.std.specs.Prelude.{◌≡◌, ◌++◌, ◌∷◌, [], List as Items, ℕ, IfOk, None};
-ghost use Rattle.class_file.specs.declared.class.FieldItem.{FieldItem as Item};
+ghost use Rattle.class_format.specs.declared.class.FieldItem.{FieldItem as Item};
 ghost use Rattle.class_file.specs.Reading.{Gives, counted_at, listed_at};
 ghost use Rattle.class_file.specs.Seen.{HasSeen};
-ghost use Rattle.class_file.specs.Members.{field_keys, is_constant_at};
+ghost use Rattle.class_format.specs.Members.{field_keys};
+ghost use Rattle.constant_pool.specs.KnownTexts.{is_constant_at};
 ghost use Rattle.class_file.specs.MemberReading.{constant_at, field_attribute_at, field_at};
 
 use crate::attribute::{AttributeHead, next_attribute};
-use crate::class::FieldItem;
 use crate::error::ClassErr;
-use crate::flags::{STATIC, has_flag};
-use crate::head::{Head, MemberKind, new_head};
+use crate::head::{Head, new_head};
 use crate::reader::Reader;
-use crate::texts::Texts;
+use class_format::{FieldItem, MemberKind, STATIC, has_flag};
+use constant_pool::Texts;
 use jvm_base::List;
 use std::alloc::Global;
 use std::collections::BTreeSet;

@@ -1,20 +1,19 @@
 //! Methods.
 
 ghost use Rattle.std.specs.Prelude.{◌≡◌, ◌++◌, ◌∷◌, [], List as Items, IfOk, OnOk, length};
-ghost use Rattle.class_file.specs.declared.class.MethodItem.{MethodItem as Item};
+ghost use Rattle.class_format.specs.declared.class.MethodItem.{MethodItem as Item};
 ghost use Rattle.class_file.specs.Reading.{Gives, counted_at, listed_at};
 ghost use Rattle.class_file.specs.Seen.{HasSeen};
-ghost use Rattle.class_file.specs.Members.{method_keys, code_count};
+ghost use Rattle.class_format.specs.Members.{method_keys, code_count};
 ghost use Rattle.class_file.specs.MemberReading.{another_code_at, method_attribute_at, method_at};
 
 use crate::attribute::{AttributeHead, next_attribute};
-use crate::class::MethodItem;
 use crate::code::code;
 use crate::error::ClassErr;
-use crate::flags::{ABSTRACT, NATIVE, has_flag};
-use crate::head::{MemberKind, new_head};
+use crate::head::new_head;
 use crate::reader::Reader;
-use crate::texts::Texts;
+use class_format::{MemberKind, MethodItem, code_count};
+use constant_pool::Texts;
 use jvm_base::{CodeItem, List};
 use std::alloc::Global;
 use std::collections::BTreeSet;
@@ -68,16 +67,6 @@ fn method_attributes(
         method_attribute(alloc, reader, texts, method, &mut codes)?;
     }
     Ok(codes)
-}
-
-pub(crate) fn code_count(flags: u16) -> usize
-    ensures { result ≡ code_count flags }
-{
-    if has_flag(flags, NATIVE) || has_flag(flags, ABSTRACT) {
-        0
-    } else {
-        1
-    }
 }
 
 #[tactic(auto, unfolding(crate::specs::MemberReading::method_at))]

@@ -8,13 +8,13 @@ use Rattle.std.proofs.lemmas.List.Sums.{prefix_len-le-length}
 use Rattle.jvm_base.specs.declared.code_item.CodeItem.{CodeItem}
 use Rattle.jvm_base.specs.declared.pool.PoolItem.{PoolItem}
 use Rattle.jvm_base.specs.declared.pool.PoolItem.TheVariants.{Gap, Utf8, Integer, Float, Long, Double, Class, Text, Field, Method, InterfaceMethod, NameAndKind}
-use Rattle.class_file.specs.declared.class.ClassFile.{ClassFile}
-use Rattle.class_file.specs.declared.class.FieldItem.{FieldItem}
-use Rattle.class_file.specs.declared.class.MethodItem.{MethodItem}
-use Rattle.class_file.specs.Members.{is_code, is_constant_value}
-use Rattle.class_file.specs.PoolReading.{is_wide}
-use Rattle.class_file.specs.Spelling.{number2, listed, attribute_bytes, member_bytes, code_bytes}
-use Rattle.class_file.specs.Meaning.{FitsItem, AreItems, IsPool, IsMethod, HasCode, Spelled, lowest_that, constant_attributes, code_attributes, plain_field, plain_method, plain, spelling, IsClass}
+use Rattle.class_format.specs.declared.class.ClassFile.{ClassFile}
+use Rattle.class_format.specs.declared.class.FieldItem.{FieldItem}
+use Rattle.class_format.specs.declared.class.MethodItem.{MethodItem}
+use Rattle.constant_pool.specs.KnownTexts.{is_code, is_constant_value}
+use Rattle.constant_pool.specs.Items.{is_wide}
+use Rattle.class_format.specs.Spelling.{number2, listed, attribute_bytes, member_bytes, code_bytes}
+use Rattle.class_format.specs.Meaning.{FitsItem, AreItems, IsPool, IsMethod, HasCode, Spelled, lowest_that, constant_attributes, code_attributes, plain_field, plain_method, plain, spelling, IsClass}
 use Rattle.class_file.specs.ClassReading.{class_at}
 use Rattle.class_file.proofs.ClassLaws.{class_again}
 use Rattle.jvm_base.specs.declared.memory.NoMemory.{NoMemory}

@@ -2,10 +2,11 @@
 use Rattle.std.specs.Prelude.{◌<◌, ◌^◌, length, All, Option, Some, None}
 use Rattle.jvm_base.specs.Text.{text_bytes}
 use Rattle.jvm_base.specs.declared.code_item.CodeItem.{CodeItem}
-use Rattle.class_file.specs.declared.class.ClassFile.{ClassFile}
+use Rattle.class_format.specs.declared.class.ClassFile.{ClassFile}
 use Rattle.jvm_base.specs.declared.pool.PoolItem.{PoolItem}
 use Rattle.jvm_base.specs.declared.pool.PoolItem.TheVariants.{Utf8}
 
+-- a text has a length that fits two bytes
 abbrev pub FitsWritten : PoolItem → Type 0
 FitsWritten (Utf8 us) = length (text_bytes us) < 2 ^ 16
 FitsWritten _ = Unit {0}

@@ -2,7 +2,7 @@
 
 ghost use Rattle.std.specs.Prelude.{◌≡◌, ◌++◌, ◌∷◌, ◌<◌, ◌^◌, [], length, OnOk};
 ghost use Rattle.jvm_base.specs.Text.{text_bytes};
-ghost use Rattle.class_file.specs.Spelling.{number2, item_bytes};
+ghost use Rattle.class_format.specs.Spelling.{number2, item_bytes};
 ghost use Rattle.class_write.specs.Written.{FitsWritten};
 
 use crate::number::{push_u2, push_u4, push_u8};
@@ -33,6 +33,7 @@ fn push_pair(out: &mut Vec<u8>, tag: u8, first: u16, second: u16) -> Result<(), 
     push_u2(out, second)
 }
 
+/// An item, its tag first (JVMS2 4.4); a gap has no bytes.
 pub(crate) fn push_item(alloc: Global, out: &mut Vec<u8>, item: &PoolItem) -> Result<(), NoMemory>
     requires { FitsWritten item.now }
     ensures { OnOk result (out.new.items ≡ out.old.items ++ item_bytes item.now) }

@@ -2,12 +2,12 @@
 
 ghost use Rattle.std.specs.Prelude.{◌≡◌, ◌++◌, ◌∷◌, ◌<◌, ◌^◌, ◌*◌, ◌+◌, [], length, Some, None, OnOk};
 ghost use Rattle.std.specs.List.{flat_map};
-ghost use Rattle.class_file.specs.Spelling.{number2, number4, listed, table_bytes, attribute_bytes, code_bytes};
+ghost use Rattle.class_format.specs.Spelling.{number2, number4, listed, table_bytes, attribute_bytes, code_bytes};
 ghost use Rattle.class_write.specs.Parts.{constant_bytes, method_code_bytes, field_bytes, method_bytes};
 ghost use Rattle.class_write.specs.Written.{FitsCode};
 
 use crate::number::{push_u2, push_u4};
-use class_file::{FieldItem, MethodItem};
+use class_format::{FieldItem, MethodItem};
 use jvm_base::{CodeItem, NoMemory, TableItem};
 
 fn push_table_item(out: &mut Vec<u8>, item: &TableItem) -> Result<(), NoMemory>
@@ -88,6 +88,7 @@ fn push_constant(out: &mut Vec<u8>, name: u16, constant: Option<u16>) -> Result<
     }
 }
 
+/// A field with its constant (JVMS2 4.5); `ConstantValue` stands at that index.
 pub(crate) fn push_field(out: &mut Vec<u8>, name: u16, field: &FieldItem) -> Result<(), NoMemory>
     ensures { OnOk result (out.new.items ≡ out.old.items ++ field_bytes name field.now) }
 {
@@ -97,6 +98,7 @@ pub(crate) fn push_field(out: &mut Vec<u8>, name: u16, field: &FieldItem) -> Res
     push_constant(out, name, field.constant)
 }
 
+/// A method with its code (JVMS2 4.6); `Code` stands at that index.
 pub(crate) fn push_method(out: &mut Vec<u8>, name: u16, method: &MethodItem) -> Result<(), NoMemory>
     requires { FitsCode method.now.code }
     ensures { OnOk result (out.new.items ≡ out.old.items ++ method_bytes name method.now) }

@@ -2,18 +2,18 @@
 
 ghost use Rattle.std.specs.Prelude.{◌≡◌, ◌++◌, ◌<◌, ◌^◌, length, position, All, IfOk, IfSome, OnOk, false};
 ghost use Rattle.std.specs.Option.{option_map_or};
-ghost use Rattle.class_file.specs.Links.{text_of};
-ghost use Rattle.class_file.specs.Members.{is_the_text};
+ghost use Rattle.constant_pool.specs.Items.{text_of};
+ghost use Rattle.constant_pool.specs.KnownTexts.{is_the_text};
 ghost use Rattle.class_file.specs.ClassReading.{class_at};
-ghost use Rattle.class_file.specs.Spelling.{number2, listed, item_bytes};
-ghost use Rattle.class_file.specs.Meaning.{lowest_that, spelling, IsClass};
+ghost use Rattle.class_format.specs.Spelling.{number2, listed, item_bytes};
+ghost use Rattle.class_format.specs.Meaning.{lowest_that, spelling, IsClass};
 ghost use Rattle.class_write.specs.Parts.{field_bytes, method_bytes, class_bytes};
 ghost use Rattle.class_write.specs.Written.{FitsWritten, FitsCode, IsWritable};
 
 use crate::item::push_item;
 use crate::member::{push_field, push_method};
 use crate::number::{push_u2, push_u4};
-use class_file::{ClassFile, FieldItem, MethodItem};
+use class_format::{ClassFile, FieldItem, MethodItem};
 use jvm_base::{List, NoMemory, Pool, PoolItem};
 use std::alloc::Global;
 

@@ -16,7 +16,8 @@ use Rattle.code_table.specs.Sequences.{Covers, instructions_of}
 use Rattle.code_table.specs.Targets.{targets_of, is_start, leads_off, is_bad_entry, refused}
 use Rattle.code_table.specs.Decoded.{decoded}
 use Rattle.code_table.specs.Accepted.{Lands, IsEntry, IsCode, JumpsOff, IsRefused, IsDue}
-use Rattle.code_table.proofs.Binding.{ok_is, bind_ok, bind_err}
+use Rattle.jvm_base.proofs.Refusing.{ok_is, bind_ok, bind_err}
+use Rattle.jvm_base.proofs.Options.{not_false}
 use Rattle.code_table.proofs.Firsts.{find_none, none_find, find_first, first_find, position_none, none_position, position_first, first_position}
 use Rattle.code_table.proofs.Sequencing.{all_cover, cover_all, stop_there, there_stops}
 
@@ -24,10 +25,6 @@ use Rattle.code_table.proofs.Sequencing.{all_cover, cover_all, stop_there, there
 each : {X : Type 0} (P Q : X → Type 0) → ((x : X) → P x → Q x) → (xs : List X) → AllByRecursion P xs → AllByRecursion Q xs
 each P Q f [] h = tt
 each P Q f (x ∷ xs) h = (f x h.0, each P Q f xs h.1)
-
-not_false : (b : Bool) → not b ≡ false → b ≡ true
-not_false true h = refl
-not_false false h = absurd (cc)
 
 lands : (ops : List Placed) (p : Placed) → leads_off (is_start ops) p ≡ false → Lands ops p
 unfolding leads_off

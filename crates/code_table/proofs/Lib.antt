@@ -1,5 +1,4 @@
 pub mod Acceptance
-pub mod Binding
 pub mod Firsts
 pub mod Flags
 pub mod ReadAt

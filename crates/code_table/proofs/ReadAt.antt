@@ -14,7 +14,8 @@ use Rattle.code_table.specs.declared.op.Op.TheVariants.{New, Cast, TableSwitch, 
 use Rattle.code_table.specs.Numbers.{number_at, signed_at, target}
 use Rattle.code_table.specs.Results.{◌>>=◌, need, want}
 use Rattle.code_table.specs.Opcodes.{is_unknown, is_left_out, operand_bytes}
-use Rattle.code_table.specs.Items.{field_desc, method_desc, interface_method_desc, class_at, class_dimensions}
+use Rattle.code_table.specs.Items.{field_desc, method_desc, interface_method_desc, class_dimensions}
+use Rattle.constant_pool.specs.Items.{class_at}
 use Rattle.code_table.specs.Fixed.{loaded, loaded_wide, pushed, new_array, new_array_of, new_arrays_of, on_class, object}
 use Rattle.code_table.specs.Members.{static_field, instance_field, call, interface_call, member}
 use Rattle.code_table.specs.Switches.{operands_from, targets_from, pairs_from, rise, table_switch_at, lookup_switch_at}

@@ -12,7 +12,7 @@ use Rattle.code_table.specs.Results.{◌>>=◌}
 use Rattle.code_table.specs.Instructions.{instruction_at}
 use Rattle.code_table.specs.Sequences.{Leads, Covers, instructions_from, instructions_of}
 use Rattle.code_table.specs.Accepted.{Stops}
-use Rattle.code_table.proofs.Binding.{ok_is, bind_ok, bind_err}
+use Rattle.jvm_base.proofs.Refusing.{ok_is, bind_ok, bind_err}
 use Rattle.code_table.proofs.ReadAt.{instruction_within}
 
 module _ (code : List ℕ) (pool : List PoolItem) where

@@ -63,6 +63,7 @@ pub record HasBadEntry (item : CodeItem) (pool : List PoolItem) (e : CodeErr) : 
   pub bad : is_bad_entry (is_start ops) (length item.code) entry ≡ true
   pub why : e ≡ BadTable (length before)
 
+-- decoding stops at an instruction, or a target is none, or an entry is bad
 abbrev pub IsRefused : CodeItem → List PoolItem → CodeErr → Type 0
 IsRefused item pool e = Stops item.code pool 0 e ⊎ (JumpsOff item pool e ⊎ HasBadEntry item pool e)
 

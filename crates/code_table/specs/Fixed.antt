@@ -8,7 +8,8 @@ use Rattle.code_table.specs.declared.error.CodeErr.TheVariants.{LeftOutOp, BadIn
 use Rattle.code_table.specs.declared.op.Op.{Op}
 use Rattle.code_table.specs.declared.op.Op.TheVariants.{Nop, AconstNull, Iconst, Lconst, Push, Ldc, Ldc2, Load, ArrayLoad, Store, ArrayStore, Pop, Dup, Swap, Arith, Divide, Negate, Shift, Bits, Iinc, Resize, Lcmp, IfZero, IfInts, IfRefs, Goto, New, NewArray, AnewArray, ArrayLength, Athrow, Cast, Monitor, MultiNewArray}
 use Rattle.code_table.specs.Numbers.{number_at, signed_at}
-use Rattle.code_table.specs.Items.{class_at, class_dimensions}
+use Rattle.code_table.specs.Items.{class_dimensions}
+use Rattle.constant_pool.specs.Items.{class_at}
 
 -- 0 to 10, which push a constant of their own
 unfoldable pub constant : ℕ → Op

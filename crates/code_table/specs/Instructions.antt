@@ -9,7 +9,7 @@ use Rattle.code_table.specs.declared.op.Op.{Op}
 use Rattle.code_table.specs.declared.op.Op.TheVariants.{Load, Store, Iinc, IfNull, Goto, Return}
 use Rattle.code_table.specs.Numbers.{number_at, signed_at, target}
 use Rattle.code_table.specs.Results.{◌>>=◌, need}
-use Rattle.code_table.specs.Opcodes.{is_among, is_unknown, is_left_out, operand_bytes}
+use Rattle.code_table.specs.Opcodes.{is_in_ranges, is_unknown, is_left_out, operand_bytes}
 use Rattle.code_table.specs.Fixed.{constant, pushed, load, store, computation, jump, object}
 use Rattle.code_table.specs.Members.{member}
 use Rattle.code_table.specs.Switches.{table_switch_at, lookup_switch_at}
@@ -34,6 +34,7 @@ fixed op operands pool at =
     else (if nat_le op 197 then object op operands pool at
     else Ok (last_jump op operands at)))))))))
 
+-- an instruction whose opcode tells its length
 unfoldable pub fixed_at : ℕ → List ℕ → List PoolItem → ℕ → Result Placed CodeErr
 fixed_at op code pool at = do
   let next = at + 1 + operand_bytes op
@@ -43,7 +44,7 @@ fixed_at op code pool at = do
 
 -- the loads, stores and iinc have a wide form
 abbrev pub has_wide_form : ℕ → Bool
-has_wide_form op = is_among ((21, 25) ∷ (54, 58) ∷ (132, 132) ∷ (169, 169) ∷ []) op
+has_wide_form op = is_in_ranges ((21, 25) ∷ (54, 58) ∷ (132, 132) ∷ (169, 169) ∷ []) op
 
 -- the instruction of this opcode with operands of two bytes each
 unfoldable pub widened : ℕ → List ℕ → Op

@@ -25,6 +25,7 @@ pairs_from code at place n = map (λ k. (signed_at w32 code (place + 8 * k), tar
 abbrev pub rise : List (ℤ × ℕ) → Bool
 rise pairs = list_all (λ p. int_lt p.0.0 p.1.0) (zip pairs (drop 1 pairs))
 
+-- tableswitch: the default, the lowest and the highest key, and an offset for each key between them
 unfoldable pub table_switch_at : List ℕ → ℕ → Result Placed CodeErr
 table_switch_at code at = do
   let place = operands_from at
@@ -37,6 +38,7 @@ table_switch_at code at = do
   _ ← need (nat_le next (length code)) (BadSwitch at)
   Ok (record { at = at; next = next; op = TableSwitch (target at (signed_at w32 code place)) low high (targets_from code at (place + 12) count) })
 
+-- lookupswitch: the default, a count, and so many keys that rise, each with its offset
 unfoldable pub lookup_switch_at : List ℕ → ℕ → Result Placed CodeErr
 lookup_switch_at code at = do
   let place = operands_from at

@@ -2,7 +2,8 @@
 
 ghost use Rattle.std.specs.Prelude.{◌≡◌, ◌≢◌, ◌≤◌, length, slice_get};
 ghost use Rattle.code_table.specs.Opcodes.{operand_bytes};
-ghost use Rattle.code_table.specs.Items.{class_at, class_dimensions};
+ghost use Rattle.code_table.specs.Items.{class_dimensions};
+ghost use Rattle.constant_pool.specs.Items.{class_at};
 ghost use Rattle.code_table.specs.Results.{Gives};
 ghost use Rattle.code_table.specs.Fixed.{constant, pushed, load, store, computation, jump, object, loaded, loaded_wide, new_array, new_array_of, new_arrays_of, on_class};
 

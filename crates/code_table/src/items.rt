@@ -2,19 +2,11 @@
 
 ghost use Rattle.std.specs.Prelude.{◌≡◌, slice_get};
 ghost use Rattle.std.specs.Option.{option_copied};
-ghost use Rattle.code_table.specs.Items.{text_at, class_at, class_dimensions, dimensions, pair_text, field_text, method_text, interface_method_text};
+ghost use Rattle.constant_pool.specs.Items.{class_at, pair_text};
+ghost use Rattle.code_table.specs.Items.{class_dimensions, dimensions, field_text, method_text, interface_method_text};
 
+use constant_pool::{pair_desc, text_at};
 use jvm_base::{Pool, PoolItem, Units};
-
-/// The text at an index.
-fn text_at<'a>(pool: &'a Pool, at: u16) -> Option<&'a Units>
-    ensures { option_copied result ≡ text_at pool.now at }
-{
-    match pool.get(at as usize) {
-        Some(PoolItem::Utf8(text)) => Some(text),
-        _ => None,
-    }
-}
 
 /// The index of the name of the class at an index.
 pub(crate) fn class_at(pool: &Pool, at: u16) -> Option<u16>
@@ -41,17 +33,15 @@ pub(crate) fn class_dimensions(pool: &Pool, at: u16) -> Option<usize>
     ensures { result ≡ class_dimensions pool.now at }
 {
     let name = class_at(pool, at)?;
-    Some(dimensions(text_at(pool, name)?))
+    Some(dimensions(text_at(pool.as_slice(), name)?))
 }
 
 /// The text of the descriptor of the name and descriptor at an index.
 fn pair_text<'a>(pool: &'a Pool, at: u16) -> Option<&'a Units>
     ensures { option_copied result ≡ pair_text pool.now at }
 {
-    match pool.get(at as usize) {
-        Some(PoolItem::NameAndKind { desc, .. }) => text_at(pool, *desc),
-        _ => None,
-    }
+    let items = pool.as_slice();
+    text_at(items, pair_desc(items, at)?)
 }
 
 /// The text of the descriptor of the field at an index.

@@ -9,3 +9,4 @@ pub mod Readers
 pub mod TextLoop
 pub mod Texts
 pub mod UnitParts
+pub mod Refusing

@@ -9,6 +9,7 @@ use Rattle.jvm_base.specs.declared.desc.MethodDesc.{MethodDesc}
 
 -- ---- the spelling
 
+-- the text of an element type: one letter, or a class name between `L` and `;`
 abbrev pub elem_text : Elem → List ℕ
 elem_text Byte = 66 ∷ []
 elem_text Char = 67 ∷ []
@@ -24,6 +25,7 @@ elem_text (Object name) = 76 ∷ name ++ 59 ∷ []
 abbrev pub desc_text : Desc → List ℕ
 desc_text d = replicate d.dims 91 ++ elem_text d.elem
 
+-- descriptors one behind the other
 abbrev pub args_text : List Desc → List ℕ
 args_text ds = flat_map desc_text ds
 
@@ -32,11 +34,13 @@ abbrev pub return_text : Option Desc → List ℕ
 return_text None = 86 ∷ []
 return_text (Some d) = desc_text d
 
+-- parameters in brackets, and the result
 abbrev pub method_text : MethodDesc → List ℕ
 method_text m = 40 ∷ args_text m.args ++ 41 ∷ return_text m.ret
 
 -- ---- slots
 
+-- a long or double takes two slots
 abbrev pub elem_slots : Elem → ℕ
 elem_slots Double = 2
 elem_slots Long = 2
@@ -46,6 +50,7 @@ elem_slots _ = 1
 abbrev pub desc_slots : Desc → ℕ
 desc_slots d = if d.dims == 0 then elem_slots d.elem else 1
 
+-- the slots of all parameters
 abbrev pub args_slots : List Desc → ℕ
 args_slots ds = sum_by desc_slots ds
 
@@ -55,14 +60,17 @@ args_slots ds = sum_by desc_slots ds
 abbrev pub is_class_name : List ℕ → Bool
 is_class_name us = nat_lt 0 (length us) && list_all (λ u. not (u == 59) && not (u == 91)) us
 
+-- a class name that can stand in a descriptor
 abbrev pub IsElem : Elem → Type 0
 IsElem (Object name) = IsTrue (is_class_name name)
 IsElem _ = Unit {0}
 
+-- an element type in at most 255 dimensions
 pub record IsDesc (d : Desc) : Type 0 where
   pub dims : d.dims < 256
   pub elem : IsElem d.elem
 
+-- a result, or none for `V`
 abbrev pub IsReturn : Option Desc → Type 0
 IsReturn None = Unit {0}
 IsReturn (Some d) = IsDesc d
@@ -134,6 +142,7 @@ is_void (u ∷ us) = u == 86 && (length us == 0)
 abbrev pub return_of : List ℕ → Option (Option Desc)
 return_of us = if is_void us then Some None else option_map Some (desc_of us)
 
+-- the method of these parameters and result, where the parameters fit
 abbrev pub method_if : List Desc → Option Desc → Option MethodDesc
 method_if args ret = if nat_le (args_slots args) 255 then Some (record { args = args; ret = ret }) else None
 

@@ -3,6 +3,7 @@ pub mod Lends
 pub mod Maps
 pub mod Names
 pub mod Reads
+pub mod Refusing
 pub mod SeenDescs
 pub mod Stack
 pub mod Text

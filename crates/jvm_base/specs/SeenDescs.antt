@@ -13,6 +13,7 @@ use Rattle.jvm_base.specs.declared.desc_text.SeenArg.{SeenArg}
 use Rattle.jvm_base.specs.declared.desc_text.SeenArg.TheVariants.{End, Next}
 use Rattle.jvm_base.specs.Descriptors.{args_slots, args_of}
 
+-- the element type that a reader saw
 abbrev pub seen_elem : SeenElem → Elem
 seen_elem Byte = elem.Byte
 seen_elem Char = elem.Char
@@ -24,6 +25,7 @@ seen_elem Short = elem.Short
 seen_elem Boolean = elem.Boolean
 seen_elem (Object name) = elem.Object name.now
 
+-- the descriptor that a reader saw
 abbrev pub seen_desc : SeenDesc → Desc
 seen_desc d = record { dims = d.dims; elem = seen_elem d.elem }
 
@@ -37,6 +39,7 @@ ReadsFirst refusal (Ok x) read = read ≡ Some (x.0, x.1.now)
 ReadsFirst refusal (Err NoMemory) read = Unit {0}
 ReadsFirst refusal (Err e) read = (e ≡ refusal) × (read ≡ None)
 
+-- one more parameter in front of those that follow it
 abbrev pub with_args : List Desc → Option (List Desc × List ℕ) → Option (List Desc × List ℕ)
 with_args front read = option_map (λ x. (front ++ x.0, x.1)) read
 

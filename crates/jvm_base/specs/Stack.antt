@@ -2,6 +2,7 @@
 use Rattle.std.specs.Prelude.{ℕ, List}
 use Rattle.jvm_base.specs.declared.value.Value.{Value}
 
+-- operands, newest first, and for how many there is room
 pub record Stack : Type 0 where
   pub values : List Value
   pub room : ℕ

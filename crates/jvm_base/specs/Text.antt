@@ -15,6 +15,7 @@ unit_bytes u =
     else (if nat_lt u 2048 then (192 + u / 64) ∷ (128 + u % 64) ∷ []
     else (224 + u / 4096) ∷ (128 + u / 64 % 64) ∷ (128 + u % 64) ∷ [])
 
+-- the bytes of a text
 abbrev pub text_bytes : List ℕ → List ℕ
 text_bytes us = flat_map unit_bytes us
 
@@ -24,6 +25,7 @@ text_bytes us = flat_map unit_bytes us
 abbrev pub is_two : ℕ → ℕ → Bool
 is_two a b = nat_le 192 a && nat_lt a 224 && nat_le 128 b && nat_lt b 192 && (nat_eq a 192 && nat_eq b 128 || nat_le 194 a)
 
+-- the unit of a first byte and one that continues it
 abbrev pub two : ℕ → ℕ → ℕ
 two a b = (a - 192) * 64 + (b - 128)
 
@@ -31,6 +33,7 @@ two a b = (a - 192) * 64 + (b - 128)
 abbrev pub is_three : ℕ → ℕ → ℕ → Bool
 is_three a b c = nat_le 224 a && nat_lt a 240 && nat_le 128 b && nat_lt b 192 && nat_le 128 c && nat_lt c 192 && (nat_lt 224 a || nat_le 160 b)
 
+-- the unit of a first byte and two that continue it
 abbrev pub three : ℕ → ℕ → ℕ → ℕ
 three a b c = (a - 224) * 4096 + (b - 128) * 64 + (c - 128)
 

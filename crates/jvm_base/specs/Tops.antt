@@ -23,21 +23,26 @@ pub record FrameTakes (takes : ℕ) (f : Frame) : Type 0 where
   pub enough : takes ≤ length f.stack.values
   pub room : length f.stack.values < f.stack.room + takes
 
+-- the frame at its next address, the answer in place of the operands that were taken
 abbrev pub frame_answered : ℕ → ℕ → Option Value → Frame → Frame
 frame_answered next takes value f = record f { at = next; stack = record { values = option_to_list value ++ drop takes f.stack.values; room = f.stack.room } }
 
+-- the level is such a frame
 abbrev pub LevelTakes : ℕ → Level → Type 0
 LevelTakes takes (Code f) = FrameTakes takes f
 LevelTakes takes (Init c b) = ⊥
 
+-- the level, its frame answered
 abbrev pub level_answered : ℕ → ℕ → Option Value → Level → Level
 level_answered next takes value (Code f) = Code (frame_answered next takes value f)
 level_answered next takes value (Init c b) = Init c b
 
+-- the top level is such a frame
 abbrev pub TopTakes : ℕ → List Level → Type 0
 TopTakes takes [] = ⊥
 TopTakes takes (l ∷ ls) = LevelTakes takes l
 
+-- the levels, the frame of the top one answered
 abbrev pub top_answered : ℕ → ℕ → Option Value → List Level → List Level
 top_answered next takes value [] = []
 top_answered next takes value (l ∷ ls) = level_answered next takes value l ∷ ls

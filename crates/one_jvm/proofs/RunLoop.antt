@@ -2,8 +2,8 @@
 use Rattle.std.proofs.Common.{◌≡◌, ℕ, ◌+◌, ◌-◌, ◌<◌, ◌≤◌, List, [], ◌∷◌, ◌++◌, length, take, Option, Some, None, Result, Ok, Err, sym, ap, subst, ◌∙◌, ⊎_elim, arith}
 use Rattle.std.specs.Prelude.{OnOk}
 use Rattle.std.specs.Io.KnownBytes.{Appends}
-use Rattle.class_file.specs.declared.thin.ThinCode.{ThinCode}
-use Rattle.class_file.specs.Thin.{IsThinCode}
+use Rattle.thin_file.specs.declared.thin.ThinCode.{ThinCode}
+use Rattle.thin_file.specs.Thin.{IsThinCode}
 use Rattle.jvm_base.specs.declared.memory.NoMemory.{NoMemory}
 use Rattle.one_machine.specs.State.{State}
 use Rattle.one_machine.specs.declared.state.Choice.{Choice}

@@ -1,10 +1,11 @@
 -- Each status comes exactly with its cause.
 use Rattle.std.proofs.Common.{◌≡◌, ℕ, ◌≤◌, List, [], ◌∷◌, length, Option, Some, None, refl, sym, ap, subst, ◌∙◌, ◌⊎◌, inl, inr, ⊎_elim, arith}
-use Rattle.std.specs.Prelude.{◌↔◌, Result, Ok, Err}
+use Rattle.std.specs.Prelude.{◌↔◌}
 use Rattle.class_file.specs.declared.error.ClassErr.{ClassErr}
-use Rattle.class_file.specs.Thin.{IsThin}
-use Rattle.class_file.specs.ClassReading.{class_at}
-use Rattle.class_file.proofs.ClassLaws.{class_again}
+use Rattle.thin_file.specs.Thin.{IsThin}
+use Rattle.class_file.specs.Refused.{IsRefused}
+use Rattle.class_file.proofs.Refused.{no_class_refused}
+use Rattle.thin_file.proofs.ThinClass.{is_class}
 use Rattle.one_jvm.specs.declared.outcome.Stop.{Stop}
 use Rattle.one_jvm.specs.declared.outcome.Stop.TheVariants as stop
 use Rattle.one_jvm.specs.declared.outcome.Refusal.{Refusal}
@@ -33,14 +34,14 @@ exactly k others cause plain refusal status s h not_six six only always =
 same_name : (words : List (List ℕ)) (a b : List ℕ) → IsRun words a → IsRun words b → a ≡ b
 same_name words a b p q = let e = p.0 in let f = q.0 in cc
 
-same_under : (fs : Files) (words : List (List ℕ)) (a b : List ℕ) → IsRun words a → IsRun words b → bytes_under fs a ≡ bytes_under fs b
-same_under fs words a b p q = ap (bytes_under fs) (same_name words a b p q)
+same_there : (fs : Files) (words : List (List ℕ)) (a b : List ℕ) → IsRun words a → IsRun words b → bytes_under fs a ≡ bytes_under fs b
+same_there fs words a b p q = ap (bytes_under fs) (same_name words a b p q)
 
 same_bytes : (fs : Files) (words : List (List ℕ)) (a b x y : List ℕ) → IsRun words a → IsRun words b → bytes_under fs a ≡ Some x → bytes_under fs b ≡ Some y → x ≡ y
-same_bytes fs words a b x y p q e f = let h = same_under fs words a b p q in cc
+same_bytes fs words a b x y p q e f = let h = same_there fs words a b p q in cc
 
 lacks_has : (fs : Files) (words : List (List ℕ)) (a x : List ℕ) → LacksFile fs words → IsRun words a → bytes_under fs a ≡ Some x → ⊥
-lacks_has fs words a x l r e = let h : None ≡ Some x = sym l.lacks ∙ same_under fs words l.name a l.is_run r ∙ e in absurd cc
+lacks_has fs words a x l r e = let h : None ≡ Some x = sym l.lacks ∙ same_there fs words l.name a l.is_run r ∙ e in absurd cc
 
 long_short : (fs : Files) (words : List (List ℕ)) (a x : List ℕ) → HasLongFile fs words → IsRun words a → bytes_under fs a ≡ Some x → length x ≤ limit → ⊥
 long_short fs words a x l r e short = let h = same_bytes fs words l.name a l.bytes x l.is_run r l.has e in absurd (omega (arith, l.long, ap length h))
@@ -50,16 +51,13 @@ other_thin fs words o t =
     let h = same_bytes fs words t.1.name o.name t.1.bytes o.bytes t.1.is_run o.is_run t.1.has o.has in
     o.other t.0 (subst (λ (bytes : List ℕ). IsThin bytes t.0) h t.1.thin)
 
-not_both : {A E : Type 0} (r : Result A E) (x : A) (e : E) → r ≡ Ok x → r ≡ Err e → ⊥
-not_both r x e p q = absurd cc
-
 class_refused : (fs : Files) (words : List (List ℕ)) (a x : List ℕ) (why : ClassErr) → HasRefusal fs words why → IsRun words a → bytes_under fs a ≡ Some x → IsClassFile x → ⊥
 class_refused fs words a x why r is_run has class =
     let h = same_bytes fs words r.name a r.bytes x r.is_run is_run r.has has in
-    not_both (class_at x) class.0 why (class_again class.0 x class.1) (subst (λ (bytes : List ℕ). class_at bytes ≡ Err why) h r.refused)
+    no_class_refused x class.0 why class.1 (subst (λ (bytes : List ℕ). IsRefused bytes why) h r.refused)
 
 refused_thin : (fs : Files) (words : List (List ℕ)) (why : ClassErr) → HasRefusal fs words why → HasThinFile fs words → ⊥
-refused_thin fs words why r t = class_refused fs words t.1.name t.1.bytes why r t.1.is_run t.1.has t.1.class
+refused_thin fs words why r t = class_refused fs words t.1.name t.1.bytes why r t.1.is_run t.1.has (is_class t.1.bytes t.0 t.1.thin)
 
 other_refused : (fs : Files) (words : List (List ℕ)) → HasOtherFile fs words → (why : ClassErr) → HasRefusal fs words why → ⊥
 other_refused fs words o why r = class_refused fs words o.name o.bytes why r o.is_run o.has o.class

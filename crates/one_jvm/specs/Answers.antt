@@ -1,12 +1,12 @@
 -- Why a call answers what it answers.
-use Rattle.std.specs.Prelude.{◌≡◌, ◌≢◌, ◌⊎◌, ℕ, ◌<◌, ◌≤◌, List, [], ◌∷◌, length, take, Option, Some, None, Err}
+use Rattle.std.specs.Prelude.{◌≡◌, ◌≢◌, ◌⊎◌, ℕ, ◌<◌, ◌≤◌, List, [], ◌∷◌, length, take, Option, Some, None}
 use Rattle.std.specs.Io.KnownBytes.{Appends, Keeps}
-use Rattle.class_file.specs.declared.thin.ThinCode.{ThinCode}
-use Rattle.class_file.specs.Thin.{IsThin}
-use Rattle.class_file.specs.declared.class.ClassFile.{ClassFile}
+use Rattle.thin_file.specs.declared.thin.ThinCode.{ThinCode}
+use Rattle.thin_file.specs.Thin.{IsThin}
+use Rattle.class_format.specs.declared.class.ClassFile.{ClassFile}
 use Rattle.class_file.specs.declared.error.ClassErr.{ClassErr}
-use Rattle.class_file.specs.ClassReading.{class_at}
-use Rattle.class_file.specs.Meaning.{Spells}
+use Rattle.class_file.specs.Refused.{IsRefused}
+use Rattle.class_format.specs.Meaning.{Spells}
 use Rattle.one_machine.specs.declared.state.Choice.{Choice}
 use Rattle.one_jvm.specs.declared.outcome.Stop.{Stop}
 use Rattle.one_jvm.specs.declared.outcome.Stop.TheVariants as stop
@@ -24,6 +24,7 @@ limit = 1048576
 
 -- ---- what bytes are
 
+-- they spell a class file
 abbrev pub IsClassFile : List ℕ → Type 0
 IsClassFile bytes = (c : ClassFile) × Spells c bytes
 
@@ -33,11 +34,13 @@ IsOther bytes = (code : ThinCode) → ¬ IsThin bytes code
 
 -- ---- what the files are to the words
 
+-- there is no file of this name
 pub record LacksFile (fs : Files) (words : List (List ℕ)) : Type 0 where
   pub name : List ℕ
   pub is_run : IsRun words name
   pub lacks : bytes_under fs name ≡ None
 
+-- the file is longer than a class file may be
 pub record HasLongFile (fs : Files) (words : List (List ℕ)) : Type 0 where
   pub name : List ℕ
   pub is_run : IsRun words name
@@ -55,28 +58,29 @@ pub record HasOtherFile (fs : Files) (words : List (List ℕ)) : Type 0 where
   pub class : IsClassFile bytes
   pub other : IsOther bytes
 
--- no class file, with its first refusal
+-- no class file, with its refusal
 pub record HasRefusal (fs : Files) (words : List (List ℕ)) (why : ClassErr) : Type 0 where
   pub name : List ℕ
   pub is_run : IsRun words name
   pub bytes : List ℕ
   pub has : bytes_under fs name ≡ Some bytes
   pub short : length bytes ≤ limit
-  pub refused : class_at bytes ≡ Err why
+  pub refused : IsRefused bytes why
 
+-- no class file, whatever its refusal
 abbrev pub HasRefusedFile : Files → List (List ℕ) → Type 0
 HasRefusedFile fs words = (why : ClassErr) × HasRefusal fs words why
 
--- a thin class file, with its program
+-- a thin file, which is a class file (thin_is_class), with its program
 pub record HasProgram (fs : Files) (words : List (List ℕ)) (code : ThinCode) : Type 0 where
   pub name : List ℕ
   pub is_run : IsRun words name
   pub bytes : List ℕ
   pub has : bytes_under fs name ≡ Some bytes
   pub short : length bytes ≤ limit
-  pub class : IsClassFile bytes
   pub thin : IsThin bytes code
 
+-- a thin file, whatever its program
 abbrev pub HasThinFile : Files → List (List ℕ) → Type 0
 HasThinFile fs words = (code : ThinCode) × HasProgram fs words code
 
@@ -84,20 +88,24 @@ HasThinFile fs words = (code : ThinCode) × HasProgram fs words code
 abbrev pub IfTold : Option Files → (Files → Type 0) → Type 0
 IfTold told P = (fs : Files) → told ≡ Some fs → P fs
 
+-- the words ask to run a file
 abbrev pub IsSomeRun : List (List ℕ) → Type 0
 IsSomeRun words = (name : List ℕ) × IsRun words name
 
 -- ---- the cause of a refusal, apart from faults of standard error
 
+-- how many reads and writes had failed before the call, and after it
 pub record Faults : Type 0 where
   pub read_before : ℕ
   pub read_now : ℕ
   pub wrote_before : ℕ
   pub wrote_now : ℕ
 
+-- these four numbers
 abbrev pub the_faults : ℕ → ℕ → ℕ → ℕ → Faults
 the_faults read_before read_now wrote_before wrote_now = record { read_before = read_before; read_now = read_now; wrote_before = wrote_before; wrote_now = wrote_now }
 
+-- what holds where a call is refused so, or isn't refused
 abbrev pub Because : List (List ℕ) → Option Files → Faults → Option Refusal → Type 0
 Because words told faults None = IsSomeRun words × IfTold told (λ fs. HasThinFile fs words)
 Because words told faults (Some Usage) = IsNoRun words
@@ -143,6 +151,7 @@ pub record Reports (words : List (List ℕ)) (told : Option Files) (faults : Fau
 
 -- ---- statuses
 
+-- the status is one of these
 abbrev pub OneOf : List ℕ → ℕ → Type 0
 OneOf [] status = ⊥
 OneOf (k ∷ ks) status = (status ≡ k) ⊎ OneOf ks status

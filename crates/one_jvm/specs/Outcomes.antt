@@ -5,6 +5,7 @@ use Rattle.class_file.specs.declared.error.ClassErr.TheVariants as class
 use Rattle.one_jvm.specs.declared.outcome.Refusal.{Refusal}
 use Rattle.one_jvm.specs.declared.outcome.Refusal.TheVariants.{Usage, File, NoFile, ReadFault, WriteFault, TooLong, NotYet, NoMemory}
 
+-- the exit status of a refusal; 0 where there is none
 abbrev pub status_of : Option Refusal → ℕ
 status_of None = 0
 status_of (Some Usage) = 2

@@ -1,7 +1,7 @@
 -- A run of a thin program that is going on.
 use Rattle.std.specs.Prelude.{◌≡◌, ℕ, ◌≤◌, ◌<◌, ◌++◌, List, length, take, Option, Result, Ok, Err}
 use Rattle.std.specs.Io.KnownBytes.{Appends}
-use Rattle.class_file.specs.declared.thin.ThinCode.{ThinCode}
+use Rattle.thin_file.specs.declared.thin.ThinCode.{ThinCode}
 use Rattle.one_machine.specs.Acts.{steps_of}
 use Rattle.one_machine.specs.Sound.{IsSound}
 use Rattle.one_machine.specs.Runs.{LeadsTo}
@@ -40,6 +40,7 @@ pub record Breaks (code : ThinCode) (old new : Run) (before now : Option (List �
   pub within : count ≤ length printed
   pub gained : Appends before now (take count printed)
 
+-- what a step of the loop leaves
 abbrev pub Turned : ThinCode → Run → Run → Option (List ℕ) → Option (List ℕ) → ℕ → ℕ → Result (Unit {0}) Broken → Type 0
 Turned code old new before now faults_before faults (Ok u) = Writes code old new before now × (faults_before ≤ faults)
 Turned code old new before now faults_before faults (Err WriteFault) = Breaks code old new before now × Rose faults_before faults

@@ -1,7 +1,7 @@
 -- What a run of a thin program answers and writes.
 use Rattle.std.specs.Prelude.{◌≡◌, ℕ, ◌≤◌, List, [], length, take, Option}
 use Rattle.std.specs.Io.KnownBytes.{Appends}
-use Rattle.class_file.specs.declared.thin.ThinCode.{ThinCode}
+use Rattle.thin_file.specs.declared.thin.ThinCode.{ThinCode}
 use Rattle.one_machine.specs.declared.state.Choice.{Choice}
 use Rattle.one_machine.specs.declared.state.End.TheVariants.{AllEnded}
 use Rattle.one_machine.specs.State.{State}

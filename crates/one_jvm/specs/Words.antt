@@ -10,6 +10,7 @@ is_option _ = false
 abbrev pub IsRun : List (List ℕ) → List ℕ → Type 0
 IsRun words name = (words ≡ codes "run" ∷ name ∷ []) × (is_option name ≡ false)
 
+-- the words are no command
 abbrev pub IsNoRun : List (List ℕ) → Type 0
 IsNoRun words = (name : List ℕ) → ¬ IsRun words name
 

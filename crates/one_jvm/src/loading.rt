@@ -1,13 +1,15 @@
 //! The file of a call, read and accepted.
 
 ghost use Rattle.std.specs.Prelude.{◌≡◌, MatchOption, MatchResult};
+ghost use Rattle.thin_file.specs.Thin.{IsThin};
 ghost use Rattle.one_jvm.specs.Answers.{IsClassFile};
-ghost use Rattle.one_jvm.specs.Loading.{HasCode, Loaded, RefusesFile};
+ghost use Rattle.one_jvm.specs.Loading.{Loaded, RefusesFile};
 
 use crate::outcome::Refusal;
 use crate::outside::{Shelf, ShelfErr};
-use class_file::{ClassErr, ThinCode, ThinErr, read_class, read_thin};
+use class_file::{ClassErr, read_class};
 use std::alloc::Global;
+use thin_file::{ThinCode, ThinErr, read_thin};
 
 /// The greatest length of a class file, in bytes.
 const CLASS_FILE_LIMIT: u64 = 1_048_576;
@@ -26,7 +28,7 @@ fn is_refused(alloc: Global, bytes: &[u8]) -> Option<Refusal>
 /// The program that a class file has, or why it isn't run.
 fn program_of(alloc: Global, bytes: &[u8]) -> Result<ThinCode, Refusal>
     requires { IsClassFile bytes.now }
-    ensures { MatchResult result (HasCode bytes.now) (RefusesFile bytes.now) }
+    ensures { MatchResult result (IsThin bytes.now) (RefusesFile bytes.now) }
 {
     match read_thin(alloc, bytes) {
         Ok(code) => Ok(code),
@@ -37,7 +39,7 @@ fn program_of(alloc: Global, bytes: &[u8]) -> Result<ThinCode, Refusal>
 
 /// The program that bytes have, or why they have none that is run.
 fn accept(alloc: Global, bytes: &[u8]) -> Result<ThinCode, Refusal>
-    ensures { MatchResult result (HasCode bytes.now) (RefusesFile bytes.now) }
+    ensures { MatchResult result (IsThin bytes.now) (RefusesFile bytes.now) }
 {
     match is_refused(alloc, bytes) {
         Some(refusal) => Err(refusal),

@@ -1,17 +1,17 @@
 //! A run of a thin program on the one machine.
 
 ghost use Rattle.std.specs.Prelude.{◌≡◌, ◌↔◌, IsTrue, length, OnOk};
-ghost use Rattle.class_file.specs.Thin.{IsThinCode};
+ghost use Rattle.thin_file.specs.Thin.{IsThinCode};
 ghost use Rattle.one_machine.specs.declared.state.End.TheVariants.{Going};
 ghost use Rattle.one_machine.specs.Runs.{end_of};
 ghost use Rattle.one_jvm.specs.Runs.{RanTo};
 
 use crate::outcome::Stop;
 use crate::outside::{Sink, write_all};
-use class_file::ThinCode;
 use jvm_base::NoMemory;
 use one_machine::{Choice, End, Machine, NO_NAME, Order, StepErr};
 use std::alloc::Global;
+use thin_file::ThinCode;
 
 /// How many steps are taken before what they printed is written.
 const BURST: u32 = 4096;

@@ -2,9 +2,7 @@
 use Rattle.std.proofs.Common.{◌≡◌, List, [], ◌∷◌, Some, Result, Ok, Err, sym, ap, ◌∙◌}
 use Rattle.std.specs.Prelude.{slice_get, slice_set, OnErr}
 use Rattle.jvm_base.specs.declared.memory.NoMemory.{NoMemory}
-
-some_is : {A : Type 0} (x y : A) → Some x ≡ Some y → x ≡ y
-some_is x y e = cc
+use Rattle.jvm_base.proofs.Options.{some_is}
 
 pub kept : {M X : Type 0} (V : List X → M) (xs : List X) (now new : X) (m : M) (r : Result (Unit {0}) NoMemory) → slice_get xs 0 ≡ Some now → V xs ≡ m → OnErr r (new ≡ now) → OnErr r (V (slice_set xs 0 new) ≡ m)
 kept V xs now new m (Ok u) g v h = tt

@@ -3,7 +3,7 @@ use Rattle.std.proofs.Common.{◌≡◌, Bool, true, false, Option, Some, None, 
 use Rattle.std.specs.Prelude.{◌↔◌, IsSome, IsNone, slice_get}
 use Rattle.std.specs.Fmt.{digits}
 use Rattle.jvm_base.specs.Words.{from}
-use Rattle.class_file.specs.declared.thin.ThinCode.{ThinCode}
+use Rattle.thin_file.specs.declared.thin.ThinCode.{ThinCode}
 use Rattle.one_machine.specs.declared.state.Choice.{Choice}
 use Rattle.one_machine.specs.declared.state.ThreadState.{ThreadState}
 use Rattle.one_machine.specs.declared.state.Mode.{Mode}

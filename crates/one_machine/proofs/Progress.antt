@@ -1,6 +1,6 @@
 -- What the machine does next in a sound state is the step of the definition, can be done, and leaves
 -- the state sound.
-use Rattle.std.proofs.Common.{◌≡◌, ℕ, zero, suc, ◌+◌, ◌-◌, ◌<◌, ◌≤◌, ◌^◌, Bool, true, false, List, [], ◌∷◌, ◌++◌, length, drop, Option, Some, Result, Ok, Err, refl, sym, ap, subst, ◌∙◌, arith, ℤ}
+use Rattle.std.proofs.Common.{◌≡◌, ℕ, zero, suc, ◌+◌, ◌-◌, ◌<◌, ◌≤◌, ◌^◌, true, false, List, [], ◌∷◌, ◌++◌, length, drop, Option, Some, Result, Ok, Err, refl, sym, ap, subst, ◌∙◌, arith, ℤ}
 use Rattle.std.specs.Prelude.{slice_get, nat_le, ◌&&◌, OnOk}
 use Rattle.jvm_base.specs.declared.memory.NoMemory.{NoMemory}
 use Rattle.std.specs.Fmt.{signed_decimal}
@@ -10,12 +10,13 @@ use Rattle.jvm_base.specs.Words.{from}
 use Rattle.jvm_base.specs.declared.name.Name.{Name}
 use Rattle.jvm_base.specs.declared.value.Value.{Value}
 use Rattle.jvm_base.specs.declared.value.Value.TheVariants.{Int, Long, Ref, Null}
-use Rattle.class_file.specs.declared.kinds.Kind.{Kind}
-use Rattle.class_file.specs.declared.kinds.Kind.TheVariants.{Whole, Console}
-use Rattle.class_file.specs.declared.thin.ThinOp.{ThinOp}
-use Rattle.class_file.specs.declared.thin.ThinOp.TheVariants as op
-use Rattle.class_file.specs.declared.thin.ThinCode.{ThinCode}
-use Rattle.class_file.specs.Thin.{two_wholes, kinds_after, is_walk, IsThinCode}
+use Rattle.jvm_base.proofs.Options.{and_parts}
+use Rattle.thin_file.specs.declared.kinds.Kind.{Kind}
+use Rattle.thin_file.specs.declared.kinds.Kind.TheVariants.{Whole, Console}
+use Rattle.thin_file.specs.declared.thin.ThinOp.{ThinOp}
+use Rattle.thin_file.specs.declared.thin.ThinOp.TheVariants as op
+use Rattle.thin_file.specs.declared.thin.ThinCode.{ThinCode}
+use Rattle.thin_file.specs.Thin.{two_wholes, kinds_after, is_walk, IsThinCode}
 use Rattle.one_machine.specs.declared.program.TheConstants.{STREAM}
 use Rattle.one_machine.specs.declared.act.Act.{Act}
 use Rattle.one_machine.specs.declared.act.Act.TheVariants.{Begin, Initialised, Enter, Answer, Print, Leave, End, Stuck}
@@ -104,10 +105,6 @@ is_next code i o rest e = record {
   inside = omega (arith, length-drop i code.ops, ap length e);
 }
 
-both : (a b : Bool) → (a && b) ≡ true → (a ≡ true) × (b ≡ true)
-both true b e = (refl, e)
-both false b e = absurd cc
-
 same_length : (ks : List Kind) (vs : List Value) → AreOf ks vs → length ks ≡ length vs
 same_length [] [] h = refl
 same_length [] (v ∷ vs) h = absurd h
@@ -121,7 +118,7 @@ pub record Reached (code : ThinCode) (ks : List Kind) (rest : List ThinOp) : Typ
 
 reached : (code : ThinCode) (ks : List Kind) (rest : List ThinOp) → (nat_le (length ks) code.max_stack && is_walk code.max_stack ks rest) ≡ true → Reached code ks rest
 reached code ks rest h =
-    let b = both (nat_le (length ks) code.max_stack) (is_walk code.max_stack ks rest) h in
+    let b = and_parts (nat_le (length ks) code.max_stack) (is_walk code.max_stack ks rest) h in
     let e : nat_le (length ks) code.max_stack ≡ true = b.0 in
     record { few = grind (arith, nat_tests); walk = b.1 }
 

@@ -13,8 +13,9 @@ use Rattle.jvm_base.specs.declared.value.ObjectBody.TheVariants.{Fields, Array, 
 use Rattle.jvm_base.specs.declared.value.Value.{Value}
 use Rattle.jvm_base.specs.declared.name.Name.{Name}
 use Rattle.jvm_base.specs.declared.frame.Level.{Level}
-use Rattle.class_file.specs.declared.thin.ThinCode.{ThinCode}
-use Rattle.class_file.specs.Thin.{IsThinCode}
+use Rattle.jvm_base.proofs.Options.{not_false}
+use Rattle.thin_file.specs.declared.thin.ThinCode.{ThinCode}
+use Rattle.thin_file.specs.Thin.{IsThinCode}
 use Rattle.one_machine.specs.declared.state.Choice.{Choice}
 use Rattle.one_machine.specs.declared.state.ThreadState.{ThreadState}
 use Rattle.one_machine.specs.declared.state.ClassState.{ClassState}
@@ -249,10 +250,6 @@ pub record IsEnabled (m : State) (c : Choice) : Type 0 where
 chosen : (b : Bool) (r : Reason) (o : Option Reason) → cond b (Some r) o ≡ None → (b ≡ false) × (o ≡ None)
 chosen true r o e = absurd cc
 chosen false r o e = (refl, e)
-
-not_false : (b : Bool) → not b ≡ false → b ≡ true
-not_false true e = refl
-not_false false e = absurd cc
 
 made_choice : (c : Choice) → c.thread ≡ 0 → c.pick ≡ 0 → c.name ≡ no_name → c ≡ any_choice 0
 made_choice c t p n =

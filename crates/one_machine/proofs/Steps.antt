@@ -5,8 +5,8 @@ use Rattle.std.specs.Int.{w32, int_wrapping_add, int_wrapping_sub, int_wrapping_
 use Rattle.jvm_base.specs.declared.value.Value.{Value}
 use Rattle.jvm_base.specs.declared.value.Value.TheVariants.{Int, Ref}
 use Rattle.jvm_base.specs.declared.name.Name.{Name}
-use Rattle.class_file.specs.declared.thin.ThinOp.TheVariants as op
-use Rattle.class_file.specs.declared.thin.ThinCode.{ThinCode}
+use Rattle.thin_file.specs.declared.thin.ThinOp.TheVariants as op
+use Rattle.thin_file.specs.declared.thin.ThinCode.{ThinCode}
 use Rattle.one_machine.specs.declared.program.TheConstants.{STREAM}
 use Rattle.one_machine.specs.Next.{plan}
 use Rattle.one_machine.specs.Serve.{serve, printed}

@@ -9,9 +9,9 @@ use Rattle.jvm_base.specs.declared.value.Value.{Value}
 use Rattle.jvm_base.specs.declared.value.Value.TheVariants.{Int, Ref}
 use Rattle.jvm_base.specs.declared.frame.Level.{Level}
 use Rattle.jvm_base.specs.declared.frame.Level.TheVariants.{Code, Init}
-use Rattle.class_file.specs.declared.thin.ThinOp.{ThinOp}
-use Rattle.class_file.specs.declared.thin.ThinOp.TheVariants as op
-use Rattle.class_file.specs.declared.thin.ThinCode.{ThinCode}
+use Rattle.thin_file.specs.declared.thin.ThinOp.{ThinOp}
+use Rattle.thin_file.specs.declared.thin.ThinOp.TheVariants as op
+use Rattle.thin_file.specs.declared.thin.ThinCode.{ThinCode}
 use Rattle.one_machine.specs.declared.program.TheConstants.{STREAM, ARGUMENTS, MAIN_CLASS}
 use Rattle.one_machine.specs.declared.act.Act.{Act}
 use Rattle.one_machine.specs.declared.act.Act.TheVariants.{Begin, Initialised, Enter, Answer, Print, Leave, End, Stuck}
@@ -27,6 +27,7 @@ use Rattle.one_machine.specs.Sound.{main_frame}
 
 -- ---- which act is next
 
+-- arithmetic on ints wraps around (JVMS2 6, iadd, isub, imul)
 abbrev pub arith : ThinOp → ℤ → ℤ → ℤ
 arith op.Sub a b = int_wrapping_sub w32 a b
 arith op.Mul a b = int_wrapping_mul w32 a b
@@ -37,10 +38,12 @@ abbrev pub two_numbers : (ℤ → ℤ → ℤ) → ℕ → Option Value → Opti
 two_numbers f next (Some (Int a)) (Some (Int b)) = Answer next 2 (Some (Int (f a b)))
 two_numbers f next _ _ = Stuck
 
+-- the stream lies under the number
 abbrev pub print_act : ℕ → Option Value → Option Value → Act
 print_act next (Some (Ref o)) (Some (Int a)) = Print next a
 print_act next _ _ = Stuck
 
+-- an instruction, with the second newest and the newest operand
 abbrev pub op_act : ℕ → Option Value → Option Value → ThinOp → Act
 op_act next v w (op.Push n) = Answer next 0 (Some (Int n))
 op_act next v w op.Add = two_numbers (arith op.Add) next v w
@@ -50,21 +53,25 @@ op_act next v w op.Stream = Answer next 0 (Some (Ref STREAM))
 op_act next v w op.Print = print_act next v w
 op_act next v w op.Return = Leave
 
+-- the thread is about to call `main`, which asks for its class first
 abbrev pub entry_act : Option ClassState → Act
 entry_act (Some class_state.Untouched) = Begin
 entry_act (Some class_state.Done) = Enter
 entry_act _ = Stuck
 
+-- the top level is a frame at an instruction, or a class that is initialised
 abbrev pub level_act : ThinCode → Level → Act
 level_act code (Code f) = from Stuck (op_act (f.at + 1) (slice_get f.stack.values 1) (slice_get f.stack.values 0)) (op_at code f.at)
 level_act code (Init c b) = Initialised
 
+-- what a thread in this mode does, where its class is in this state
 abbrev pub thread_act : ThinCode → Option ClassState → Mode → List Level → Act
 thread_act code class Entry ls = entry_act class
 thread_act code class Running [] = End
 thread_act code class Running (l ∷ ls) = level_act code l
 thread_act code class _ ls = Stuck
 
+-- what thread 0 does
 abbrev pub act_of : ThinCode → State → Act
 act_of code m = from Stuck (λ th. thread_act code (slice_get m.classes MAIN_CLASS) th.mode th.levels) (slice_get m.threads 0)
 
@@ -74,12 +81,15 @@ act_of code m = from Stuck (λ th. thread_act code (slice_get m.classes MAIN_CLA
 abbrev pub first_locals : ThinCode → List Value
 first_locals code = Ref ARGUMENTS ∷ replicate (code.max_locals - 1) (Int (pos 0))
 
+-- the thread after a step, with its mode and levels then
 abbrev pub stepped : Mode → List Level → ThreadState → ThreadState
 stepped mode levels th = record { object = th.object; mode = mode; levels = levels; steps = th.steps + 1 }
 
+-- thread 0 is changed
 abbrev pub with_thread : (ThreadState → ThreadState) → State → State
 with_thread f m = from m (λ th. record m { threads = slice_set m.threads 0 (f th) }) (slice_get m.threads 0)
 
+-- the program's class is in another state
 abbrev pub with_class : ClassState → State → State
 with_class s m = record m { classes = slice_set m.classes MAIN_CLASS s }
 
@@ -87,6 +97,7 @@ with_class s m = record m { classes = slice_set m.classes MAIN_CLASS s }
 abbrev pub begun : State → State
 begun m = with_class (class_state.Running 0) (with_thread (λ th. stepped Running (Init MAIN_CLASS false ∷ th.levels) th) m)
 
+-- the state after the act
 abbrev pub acted : ThinCode → Act → State → State
 acted code Begin m = begun m
 acted code Initialised m = with_class class_state.Done (with_thread (λ th. stepped Entry (below th.levels) th) m)
@@ -111,12 +122,14 @@ HasThread m = IsSomeAnd (slice_get m.threads 0) CanCount
 abbrev pub TakesFrom : ℕ → State → Type 0
 TakesFrom takes m = IsSomeAnd (slice_get m.threads 0) (λ th. TopTakes takes th.levels)
 
+-- the operands that the act takes are there
 abbrev pub TakesEnough : Act → State → Type 0
 TakesEnough (Answer next takes value) m = TakesFrom takes m
 TakesEnough (Print next number) m = TakesFrom 2 m
 TakesEnough Stuck m = ⊥
 TakesEnough _ m = Unit {0}
 
+-- nothing stands against the act
 pub record CanAct (act : Act) (m : State) : Type 0 where
   pub thread : HasThread m
   pub class : MAIN_CLASS < length m.classes
@@ -128,6 +141,7 @@ IsGoing m = IsSomeAnd (slice_get m.threads 0) (λ th. is_ended th.mode ≡ false
 
 -- ---- what every step does
 
+-- how many steps thread 0 took
 abbrev pub steps_of : State → ℕ
 steps_of m = from 0 (λ th. th.steps) (slice_get m.threads 0)
 

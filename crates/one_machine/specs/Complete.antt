@@ -7,9 +7,9 @@ use Rattle.jvm_base.specs.declared.value.Value.{Value}
 use Rattle.jvm_base.specs.declared.frame.Frame.{Frame}
 use Rattle.jvm_base.specs.declared.frame.Level.{Level}
 use Rattle.jvm_base.specs.declared.frame.Level.TheVariants.{Code, Init}
-use Rattle.class_file.specs.declared.thin.ThinOp.{ThinOp}
-use Rattle.class_file.specs.declared.thin.ThinOp.TheVariants as op
-use Rattle.class_file.specs.declared.thin.ThinCode.{ThinCode}
+use Rattle.thin_file.specs.declared.thin.ThinOp.{ThinOp}
+use Rattle.thin_file.specs.declared.thin.ThinOp.TheVariants as op
+use Rattle.thin_file.specs.declared.thin.ThinCode.{ThinCode}
 use Rattle.one_machine.specs.declared.state.Mode.{Mode}
 use Rattle.one_machine.specs.declared.state.Mode.TheVariants.{Entry, Running, Raising, Ended}
 use Rattle.one_machine.specs.Program.{op_at}
@@ -31,6 +31,7 @@ takes _ = 0
 abbrev pub answered : ThinCode → Option Value → Frame → Frame
 answered code v f = from f (λ o. moved f (f.at + 1) (option_to_list v ++ drop (takes o) f.stack.values)) (op_at code f.at)
 
+-- the top frame goes on with the answer
 abbrev pub answer_top : ThinCode → Option Value → List Level → List Level
 answer_top code v (Code f ∷ ls) = Code (answered code v f) ∷ ls
 answer_top code v ls = ls
@@ -40,6 +41,7 @@ abbrev pub after_init : List Level → Mode
 after_init [] = Entry
 after_init (l ∷ ls) = Running
 
+-- the thread after an answer that raises nothing
 abbrev pub given : ThinCode → Request → Option Value → Mode → List Level → Stand
 given code (Begin c) v mode ls = (Running, Init c false ∷ ls)
 given code (InitDone c) v mode ls = (after_init (below ls), below ls)

@@ -1,8 +1,8 @@
 -- Laws of the definitions, each the contract of an empty function.
 use Rattle.std.specs.Prelude.{◌≡◌, ◌↔◌, pos, [], ◌∷◌, List, ℕ, Option, Some, None, IsNone, IsSome, replicate}
 use Rattle.jvm_base.specs.Words.{from}
-use Rattle.class_file.specs.declared.thin.ThinOp.TheVariants.{Push, Add, Stream, Print, Return}
-use Rattle.class_file.specs.declared.thin.ThinCode.{ThinCode}
+use Rattle.thin_file.specs.declared.thin.ThinOp.TheVariants.{Push, Add, Stream, Print, Return}
+use Rattle.thin_file.specs.declared.thin.ThinCode.{ThinCode}
 use Rattle.one_machine.specs.declared.state.Choice.{Choice}
 use Rattle.one_machine.specs.declared.state.End.{End}
 use Rattle.one_machine.specs.declared.state.End.TheVariants.{AllEnded}
@@ -12,6 +12,7 @@ use Rattle.one_machine.specs.Start.{start}
 use Rattle.one_machine.specs.Step.{step, reason}
 use Rattle.one_machine.specs.Runs.{run, any_choice, end_of}
 
+-- a choice is a step, or has a reason
 abbrev pub StepOrReason : Type 0
 StepOrReason = (code : ThinCode) (m : State) (c : Choice) → IsSome (step code m c) ↔ IsNone (reason code m c)
 
@@ -27,5 +28,6 @@ ten_choices = replicate 10 (any_choice 0)
 unfoldable pub outcome : ThinCode → List Choice → Option (List ℕ × End × List Uncaught)
 outcome code order = from None (λ m. Some (m.output, end_of code m, m.uncaught)) (run code start order)
 
+-- it prints 5 and LF, and ends
 abbrev pub FirstProgramRuns : Type 0
 FirstProgramRuns = outcome first_program ten_choices ≡ Some (53 ∷ 10 ∷ [], AllEnded, [])

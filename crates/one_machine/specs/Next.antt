@@ -12,9 +12,9 @@ use Rattle.jvm_base.specs.declared.frame.Phase.TheVariants as phase
 use Rattle.jvm_base.specs.declared.frame.Frame.{Frame}
 use Rattle.jvm_base.specs.declared.frame.Level.{Level}
 use Rattle.jvm_base.specs.declared.frame.Level.TheVariants.{Code, Init}
-use Rattle.class_file.specs.declared.thin.ThinOp.{ThinOp}
-use Rattle.class_file.specs.declared.thin.ThinOp.TheVariants as op
-use Rattle.class_file.specs.declared.thin.ThinCode.{ThinCode}
+use Rattle.thin_file.specs.declared.thin.ThinOp.{ThinOp}
+use Rattle.thin_file.specs.declared.thin.ThinOp.TheVariants as op
+use Rattle.thin_file.specs.declared.thin.ThinCode.{ThinCode}
 use Rattle.one_machine.specs.declared.program.TheConstants.{SYSTEM, MAIN_CLASS, MAIN_METHOD, ARGUMENTS}
 use Rattle.one_machine.specs.declared.state.Mode.{Mode}
 use Rattle.one_machine.specs.declared.state.Mode.TheVariants.{Entry, Running}
@@ -46,9 +46,11 @@ pub record Who : Type 0 where
   pub depth : ℕ
   pub known : Name → Option (List ℕ)
 
+-- no class is asked for
 abbrev pub plain : Next → Plan
 plain n = record { asks = None; next = n }
 
+-- this class is asked for
 abbrev pub asking : ℕ → Next → Plan
 asking c n = record { asks = Some c; next = n }
 
@@ -56,14 +58,17 @@ asking c n = record { asks = Some c; next = n }
 abbrev pub null_pointer : ℕ
 null_pointer = 13
 
+-- the class of StackOverflowError
 abbrev pub stack_overflow : ℕ
 stack_overflow = 32
 
+-- an exception that the machine itself makes, of this class
 abbrev pub fault : ℕ → Next
 fault c = Needs (Fault c)
 
 -- ---- instructions (JVMS2 chapter 6), over the operands with the newest first
 
+-- a frame at another place, with other operands
 abbrev pub moved : Frame → ℕ → List Value → Frame
 moved f at vs = record f { at = at; stack = record { values = vs; room = f.stack.room } }
 
@@ -71,6 +76,7 @@ moved f at vs = record f { at = at; stack = record { values = vs; room = f.stack
 abbrev pub goes_on : Frame → List Value → Next
 goes_on f vs = Alone (moved f (f.at + 1) vs)
 
+-- arithmetic on the two newest operands
 abbrev pub two_ints : (ℤ → ℤ → ℤ) → Frame → List Value → Next
 two_ints g f (Int b ∷ Int a ∷ vs) = goes_on f (Int (g a b) ∷ vs)
 two_ints g f _ = Stuck
@@ -81,6 +87,7 @@ prints (Int a ∷ Ref n ∷ vs) = Needs (Print (signed_decimal a ++ 10 ∷ []))
 prints (Int a ∷ Null ∷ vs) = fault null_pointer
 prints _ = Stuck
 
+-- what an instruction does; `getstatic` asks for its class (JVMS2 5.5)
 abbrev pub instruction : Frame → ThinOp → List Value → Plan
 instruction f (op.Push n) vs = plain (goes_on f (Int n ∷ vs))
 instruction f op.Add vs = plain (two_ints (int_wrapping_add w32) f vs)
@@ -96,9 +103,11 @@ instruction f op.Return vs = plain (Leaves None)
 abbrev pub max_depth : ℕ
 max_depth = 1024
 
+-- a call, unless the stack is full
 abbrev pub calls : Who → ℕ → List Value → Next
 calls who m vs = if nat_lt who.depth max_depth then Calls m vs else fault stack_overflow
 
+-- what the top frame does; no method of a thin program is synchronized
 abbrev pub frame_plan : ThinCode → Frame → Phase → Plan
 frame_plan code f phase.Body = from (plain Stuck) (λ o. instruction f o f.stack.values) (op_at code f.at)
 frame_plan code f phase.Lock = plain Stuck

@@ -5,14 +5,15 @@ use Rattle.jvm_base.specs.Names.{named}
 use Rattle.jvm_base.specs.declared.name.Name.{Name}
 use Rattle.jvm_base.specs.declared.value.Value.{Value}
 use Rattle.jvm_base.specs.declared.value.Value.TheVariants.{Ref}
-use Rattle.class_file.specs.declared.thin.ThinOp.{ThinOp}
-use Rattle.class_file.specs.declared.thin.ThinCode.{ThinCode}
+use Rattle.thin_file.specs.declared.thin.ThinOp.{ThinOp}
+use Rattle.thin_file.specs.declared.thin.ThinCode.{ThinCode}
 use Rattle.one_machine.specs.declared.program.TheConstants.{SYSTEM, STREAM}
 
 -- the instruction at a place
 abbrev pub op_at : ThinCode → ℕ → Option ThinOp
 op_at code at = slice_get code.ops at
 
+-- boot classes, the program's class and `String[]`
 abbrev pub class_count : ℕ
 class_count = 36
 

@@ -31,6 +31,7 @@ pub data Request : Type 0 where
   Buffer : Name → ℕ → List ℕ → Request
   Print : List ℕ → Request
 
+-- where the addressed part lies
 pub data Key : Type 0 where
   Nowhere : Key
   OfBody : Name → Key
@@ -49,6 +50,7 @@ pub data Cell : Type 0 where
   Threads : List (Name × Bool) → Cell
   Console : List ℕ → Cell
 
+-- which part a request addresses; what is made anew addresses none
 abbrev pub key_of : Request → Key
 key_of (Get n i) = OfBody n
 key_of (Put n i v) = OfBody n
@@ -72,6 +74,7 @@ key_of (Finish e) = OfThreads
 key_of (Buffer n k us) = OfBody n
 key_of (Print us) = OfConsole
 
+-- the part that lies there
 abbrev pub cell : State → Key → Cell
 cell m Nowhere = NoCell
 cell m (OfBody n) = Body (body_at m.heap n)

@@ -3,7 +3,7 @@ use Rattle.std.specs.Prelude.{◌≡◌, ℕ, ◌+◌, Bool, false, ◌==◌, �
 use Rattle.std.specs.List.{list_all}
 use Rattle.jvm_base.specs.Names.{no_name}
 use Rattle.jvm_base.specs.Words.{from}
-use Rattle.class_file.specs.declared.thin.ThinCode.{ThinCode}
+use Rattle.thin_file.specs.declared.thin.ThinCode.{ThinCode}
 use Rattle.one_machine.specs.declared.state.Choice.{Choice}
 use Rattle.one_machine.specs.declared.state.ThreadState.{ThreadState}
 use Rattle.one_machine.specs.declared.state.End.{End}
@@ -27,6 +27,7 @@ program_order t order = filter (λ c. c.thread == t) order
 
 -- ---- the end
 
+-- a step of a thread that picks nobody and makes nothing
 abbrev pub any_choice : ℕ → Choice
 any_choice t = record { thread = t; pick = 0; name = no_name }
 
@@ -34,9 +35,11 @@ any_choice t = record { thread = t; pick = 0; name = no_name }
 abbrev pub can_step : ThinCode → State → ℕ → ThreadState → Bool
 can_step code m t th = not (is_none (attempt code m (any_choice t) th))
 
+-- one of these threads, the first of which has this number, can step
 abbrev pub some_can : ThinCode → State → ℕ → List ThreadState → Bool
 some_can code m t [] = false
 some_can code m t (th ∷ ths) = can_step code m t th || some_can code m (t + 1) ths
 
+-- all threads have ended; or one can step; or none can
 unfoldable pub end_of : ThinCode → State → End
 end_of code m = if list_all (λ th. is_ended th.mode) m.threads then AllEnded else (if some_can code m 0 m.threads then Going else Dead)

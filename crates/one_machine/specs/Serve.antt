@@ -17,17 +17,21 @@ use Rattle.one_machine.specs.Changes.{Place, FieldOf, Held, One, Change, Becomes
 
 -- ---- kinds of deeds
 
+-- nothing happens but the answer
 abbrev pub quiet : Option Value → Deed
 quiet v = record { makes = []; waiters = []; reads = []; locks = []; changes = []; answer = Gives v }
 
+-- a place is read
 abbrev pub reading : Place → Held → Option Value → Deed
 reading p h v = record (quiet v) { reads = (p, h) ∷ [] }
 
+-- the state is changed
 abbrev pub changing : List Change → Option Value → Deed
 changing cs v = record (quiet v) { changes = cs }
 
 -- ---- fields and threads
 
+-- a field that isn't there isn't read
 abbrev pub get : Name → ℕ → Option ObjectBody → Option Deed
 get n i (Some (Fields vs)) = from None (λ v. Some (reading (FieldOf n i) (One v) (Some v))) (slice_get vs i)
 get n i _ = None
@@ -39,14 +43,17 @@ ends t (Some e) = changing (Lost (record { thread = t; class = e.class }) ∷ []
 
 -- ---- output: a unit's bytes are those of modified UTF-8, but unit 0 is one zero byte
 
+-- the bytes of a unit
 abbrev pub printed_unit : ℕ → List ℕ
 printed_unit u = if u == 0 then 0 ∷ [] else unit_bytes u
 
+-- the bytes of a text
 abbrev pub printed : List ℕ → List ℕ
 printed us = flat_map printed_unit us
 
 -- ---- all together
 
+-- by request; none where the cell is of another kind
 unfoldable pub serve : ℕ → Choice → Request → Cell → Option Deed
 serve t c (Get n i) (Body b) = get n i b
 serve t c (Begin k) (Class s) = Some (changing (Becomes k (class_state.Running t) ∷ []) None)
@@ -57,10 +64,12 @@ serve t c _ _ = None
 
 -- ---- whether the choice's pick and name are those that the deed wants
 
+-- one of the waiters, or 0 where there are none
 abbrev pub pick_fits : ℕ → List ℕ → Bool
 pick_fits pick [] = pick == 0
 pick_fits pick (w ∷ ws) = list_any (λ t. t == pick) (w ∷ ws)
 
+-- objects of these classes can be made, with indices from this one on
 abbrev pub all_new : Heap → ℕ → ℕ → List ℕ → Bool
 all_new heap node index [] = true
 all_new heap node index (c ∷ cs) = is_none (body_at heap (named node c index)) && all_new heap node (index + 1) cs

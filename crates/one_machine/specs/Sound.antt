@@ -7,10 +7,10 @@ use Rattle.jvm_base.specs.declared.frame.Phase.TheVariants as phase
 use Rattle.jvm_base.specs.declared.frame.Frame.{Frame}
 use Rattle.jvm_base.specs.declared.frame.Level.{Level}
 use Rattle.jvm_base.specs.declared.frame.Level.TheVariants.{Code, Init}
-use Rattle.class_file.specs.declared.kinds.Kind.{Kind}
-use Rattle.class_file.specs.declared.kinds.Kind.TheVariants.{Whole, Console}
-use Rattle.class_file.specs.declared.thin.ThinCode.{ThinCode}
-use Rattle.class_file.specs.Thin.{is_walk}
+use Rattle.thin_file.specs.declared.kinds.Kind.{Kind}
+use Rattle.thin_file.specs.declared.kinds.Kind.TheVariants.{Whole, Console}
+use Rattle.thin_file.specs.declared.thin.ThinCode.{ThinCode}
+use Rattle.thin_file.specs.Thin.{is_walk}
 use Rattle.one_machine.specs.declared.program.TheConstants.{MAIN_CLASS, MAIN_METHOD, MAIN_THREAD}
 use Rattle.one_machine.specs.declared.state.ThreadState.{ThreadState}
 use Rattle.one_machine.specs.declared.state.ClassState.{ClassState}
@@ -30,9 +30,11 @@ pub data Stage : Type 0 where
   Returned : Stage
   Over : Stage
 
+-- the frame of `main`
 abbrev pub main_frame : ThinCode → ℕ → List Value → List Value → Frame
 main_frame code at locals values = record { method = MAIN_METHOD; at = at; phase = phase.Body; lock = None; locals = locals; stack = record { values = values; room = code.max_stack } }
 
+-- the mode of thread 0
 abbrev pub mode_at : Stage → Mode
 mode_at Untouched = Entry
 mode_at Initialising = Running
@@ -41,6 +43,7 @@ mode_at (At i ls vs) = Running
 mode_at Returned = Running
 mode_at Over = Ended
 
+-- the levels of thread 0
 abbrev pub levels_at : ThinCode → Stage → List Level
 levels_at code Untouched = []
 levels_at code Initialising = Init MAIN_CLASS false ∷ []
@@ -49,6 +52,7 @@ levels_at code (At i ls vs) = Code (main_frame code i ls vs) ∷ []
 levels_at code Returned = []
 levels_at code Over = []
 
+-- the state of the program's class
 abbrev pub class_at : Stage → ClassState
 class_at Untouched = class_state.Untouched
 class_at Initialising = class_state.Running 0
@@ -57,12 +61,15 @@ class_at (At i ls vs) = class_state.Done
 class_at Returned = class_state.Done
 class_at Over = class_state.Done
 
+-- thread 0 after so many steps
 abbrev pub thread_at : ThinCode → Stage → ℕ → ThreadState
 thread_at code stage steps = record { object = MAIN_THREAD; mode = mode_at stage; levels = levels_at code stage; steps = steps }
 
+-- the states of all classes
 abbrev pub classes_at : Stage → List ClassState
 classes_at stage = slice_set (first_states 0 class_count) MAIN_CLASS (class_at stage)
 
+-- the state after so many steps, with this output
 abbrev pub state_at : ThinCode → Stage → ℕ → List ℕ → State
 state_at code stage steps output = record {
   heap = start_heap;
@@ -76,11 +83,13 @@ state_at code stage steps output = record {
 
 -- ---- what holds at an instruction
 
+-- a value is of a kind
 abbrev pub IsOf : Kind → Value → Type 0
 IsOf Whole (Int n) = Unit {0}
 IsOf Console (Ref n) = Unit {0}
 IsOf k v = ⊥
 
+-- values are of these kinds, one by one
 abbrev pub AreOf : List Kind → List Value → Type 0
 AreOf [] [] = Unit {0}
 AreOf (k ∷ ks) (v ∷ vs) = IsOf k v × AreOf ks vs
@@ -93,6 +102,7 @@ pub record Reaches (code : ThinCode) (at : ℕ) (values : List Value) : Type 0 w
   pub few : length values ≤ code.max_stack
   pub walk : is_walk code.max_stack kinds (drop at code.ops) ≡ true
 
+-- what a stage promises of the code that is left
 abbrev pub Fits : ThinCode → Stage → Type 0
 Fits code Untouched = Unit {0}
 Fits code Initialising = Unit {0}

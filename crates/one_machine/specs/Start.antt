@@ -23,10 +23,12 @@ holders c (suc n) = (holder c, Fields (statics c)) ∷ holders (c + 1) n
 abbrev pub pre_made : List (Name × ObjectBody)
 pre_made = holders 0 class_count ++ ((STREAM, Fields []) ∷ (ARGUMENTS, Array []) ∷ (MAIN_THREAD, Fields (Null ∷ [])) ∷ [])
 
+-- a heap with these objects
 abbrev pub all_put : List (Name × ObjectBody) → Heap → Heap
 all_put [] heap = heap
 all_put (e ∷ es) heap = all_put es (put name_cmp e.0 e.1 heap)
 
+-- the heap before the first step
 unfoldable pub start_heap : Heap
 start_heap = all_put pre_made []
 
@@ -35,6 +37,7 @@ abbrev pub first_states : ℕ → ℕ → List ClassState
 first_states c zero = []
 first_states c (suc n) = (if nat_lt c 34 then class_state.Done else class_state.Untouched) ∷ first_states (c + 1) n
 
+-- thread 0 is about to call `main`
 unfoldable pub start : State
 start = record {
   heap = start_heap;

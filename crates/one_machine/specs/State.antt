@@ -16,6 +16,7 @@ use Rattle.one_machine.specs.declared.state.Mode.TheVariants.{Ended}
 abbrev pub Heap : Type 0
 Heap = List (Name × ObjectBody)
 
+-- which locks are owned, by name
 abbrev pub Owners : Type 0
 Owners = List (Name × MonitorState)
 
@@ -29,9 +30,11 @@ pub record State : Type 0 where
   pub output : List ℕ
   pub uncaught : List Uncaught
 
+-- the body of a name
 abbrev pub body_at : Heap → Name → Option ObjectBody
 body_at heap n = find name_cmp n heap
 
+-- the owner of a lock
 abbrev pub owner_at : Owners → Name → Option MonitorState
 owner_at owners n = find name_cmp n owners
 
@@ -40,6 +43,7 @@ abbrev pub waiters_of : Name → List Waiter → List ℕ
 waiters_of n [] = []
 waiters_of n (w ∷ ws) = if name_eq w.lock n then w.thread ∷ waiters_of n ws else waiters_of n ws
 
+-- the thread takes no more steps
 abbrev pub is_ended : Mode → Bool
 is_ended Ended = true
 is_ended _ = false

@@ -1,14 +1,14 @@
 //! What a thread does next.
 
 ghost use Rattle.std.specs.Prelude.{◌≡◌, Some};
-ghost use Rattle.class_file.specs.Thin.{IsThinCode};
+ghost use Rattle.thin_file.specs.Thin.{IsThinCode};
 ghost use Rattle.one_machine.specs.Acts.{arith, op_act, level_act, thread_act, entry_act};
 ghost use Rattle.std.specs.Option.{option_copied};
 
 use crate::program::STREAM;
 use crate::state::{ClassState, Mode, ThreadState};
-use class_file::{ThinCode, ThinOp};
 use jvm_base::{Level, Value};
+use thin_file::{ThinCode, ThinOp};
 
 /// What the thread of a thin program does next: it begins to initialise the program's class, ends
 /// that, calls `main`, answers an instruction, prints a number, leaves `main`, or ends. `Stuck` comes

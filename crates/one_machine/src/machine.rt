@@ -1,7 +1,7 @@
 //! The machine.
 
 ghost use Rattle.std.specs.Prelude.{◌≡◌, ◌<◌, ◌≤◌, ◌+◌, ◌^◌, [], ◌∷◌, ◌++◌, Some, None, length, slice_get, slice_set, string_bytes, OnOk, OnErr, IfOk, IfErr, MatchResult};
-ghost use Rattle.class_file.specs.Thin.{IsThinCode};
+ghost use Rattle.thin_file.specs.Thin.{IsThinCode};
 ghost use Rattle.one_machine.specs.Program.{class_count};
 ghost use Rattle.one_machine.specs.Start.{start, first_states};
 ghost use Rattle.one_machine.specs.Step.{step, reason};
@@ -18,11 +18,11 @@ ghost use Rattle.one_machine.specs.Acts.{act_of, acted, stepped, with_thread, wi
 use crate::act::{Act, thread_act};
 use crate::program::{ARGUMENTS, MAIN_CLASS, MAIN_METHOD, MAIN_THREAD, NO_NAME};
 use crate::state::{Choice, ClassState, End, Mode, Reason, StepErr, ThreadState};
-use class_file::ThinCode;
 use jvm_base::{Frame, Level, Levels, List, NoMemory, Operands, Phase, Uncaught, Value};
 use std::alloc::Global;
 use std::cmp::Ordering;
 use std::marker::Model;
+use thin_file::ThinCode;
 
 /// The state of the one machine. No step of a thin program changes the heap, enters a lock or waits,
 /// so these parts are not stored.

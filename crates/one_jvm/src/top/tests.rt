@@ -2,9 +2,10 @@
 
 use crate::outside::{MemShelf, VecSink};
 use crate::{Outcome, Refusal, Stop, cjvm};
-use class_file::{ClassErr, HEAD};
+use class_file::ClassErr;
 use std::alloc::{AllocError, Global};
 use std::test::Fail;
+use thin_file::HEAD;
 
 /// The bytes of A.class behind its head: it prints 2 + 3.
 const TAIL: [u8; 28] = [

@@ -1,9 +1,9 @@
 //! The ten steps of the first program, and each wrong choice on the way.
 
 use crate::{Choice, End, Machine, NO_NAME, Reason, StepErr};
-use class_file::{HEAD, read_thin};
 use jvm_base::Name;
 use std::test::Fail;
+use thin_file::{HEAD, read_thin};
 
 /// The bytes of A.class behind its head: it prints 2 + 3.
 const TAIL: [u8; 28] = [

@@ -1,6 +1,6 @@
 use Rattle.std.proofs.Common.{◌≡◌, ◌-◌}
 use Rattle.class_file.specs.Reading.{each_at, adding, listed_at}
-use Rattle.class_file.specs.Members.{field_keys}
+use Rattle.class_format.specs.Members.{field_keys}
 use Rattle.class_file.specs.Seen.{HasSeen}
 use Rattle.class_file.specs.MemberReading.{field_at}
 use Rattle.class_file.proofs.field.fields.Given as goal

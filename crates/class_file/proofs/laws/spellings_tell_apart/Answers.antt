@@ -1,8 +1,8 @@
 use Rattle.std.proofs.Common.{refl, sym, ◌∙◌}
-use Rattle.class_file.specs.Meaning.{plain}
+use Rattle.jvm_base.proofs.Refusing.{ok_is}
+use Rattle.class_format.specs.Meaning.{plain}
 use Rattle.class_file.proofs.ClassLaws.{class_again}
 use Rattle.class_file.proofs.PlainLaws.{is_class}
-use Rattle.class_file.proofs.ReadLaws.{ok_is}
 use Rattle.class_file.proofs.laws.spellings_tell_apart.Goals as goal
 
 pub returns-clause-one : goal.returns-clause-one

@@ -1,6 +1,6 @@
 use Rattle.std.proofs.Common.{◌≡◌, ◌-◌, length}
 use Rattle.class_file.specs.Reading.{each_at, adding, listed_at}
-use Rattle.class_file.specs.Members.{method_keys}
+use Rattle.class_format.specs.Members.{method_keys}
 use Rattle.class_file.specs.Seen.{HasSeen}
 use Rattle.class_file.specs.MemberReading.{method_at}
 use Rattle.class_file.proofs.method.methods.Given as goal

@@ -1,5 +1,5 @@
 use Rattle.std.proofs.Common.{arith}
-use Rattle.class_file.proofs.Lengths.{code-length}
+use Rattle.class_format.proofs.Lengths.{code-length}
 use Rattle.class_write.proofs.member.code_len.Goals as goal
 
 pub returns : goal.returns

@@ -1,6 +1,6 @@
 use Rattle.std.proofs.Common.{◌≡◌, ◌++◌, take, length}
 use Rattle.std.specs.List.{flat_map}
-use Rattle.class_file.specs.Spelling.{number2, table_bytes}
+use Rattle.class_format.specs.Spelling.{number2, table_bytes}
 use Rattle.class_write.proofs.member.push_table.Given as goal
 
 abbrev pub invariant-loop-item : goal.invariant-loop-item

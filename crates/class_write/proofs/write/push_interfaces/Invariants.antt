@@ -1,6 +1,6 @@
 use Rattle.std.proofs.Common.{◌≡◌, ◌++◌, take, length}
 use Rattle.std.specs.List.{flat_map}
-use Rattle.class_file.specs.Spelling.{number2}
+use Rattle.class_format.specs.Spelling.{number2}
 use Rattle.class_write.proofs.write.push_interfaces.Given as goal
 
 abbrev pub invariant-loop-class : goal.invariant-loop-class

@@ -1,6 +1,6 @@
 use Rattle.std.proofs.Common.{◌≡◌, ◌++◌, take, length}
 use Rattle.std.specs.List.{flat_map}
-use Rattle.class_file.specs.Spelling.{number2, item_bytes}
+use Rattle.class_format.specs.Spelling.{number2, item_bytes}
 use Rattle.class_write.proofs.write.push_pool.Given as goal
 
 abbrev pub invariant-loop-item : goal.invariant-loop-item

@@ -1,0 +1,23 @@
+"""Class files, built from their parts."""
+import struct
+
+
+def text(word):
+    return b"\x01" + struct.pack(">H", len(word)) + word
+
+
+def class_file(texts, fields=(), methods=()):
+    """A class file whose texts have the indices from 5 on."""
+    pool = [text(b"A"), b"\x07\x00\x01", text(b"Code"), text(b"I")] + [text(word) for word in texts]
+    parts = [b"\xca\xfe\xba\xbe\x00\x00\x00\x2e", struct.pack(">H", len(pool) + 1), *pool]
+    parts.append(struct.pack(">HHHH", 0x21, 2, 0, 0))
+    for members in (fields, methods):
+        parts.append(struct.pack(">H", len(members)))
+        parts.extend(members)
+    parts.append(b"\x00\x00")
+    return b"".join(parts)
+
+
+def method(name, desc, code):
+    contents = struct.pack(">HHI", 2, 2, len(code)) + code + bytes(4)
+    return struct.pack(">HHHHHI", 9, name, desc, 1, 3, len(contents)) + contents

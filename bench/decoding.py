@@ -1,0 +1,92 @@
+#!/usr/bin/env python3
+"""Times how the code of class files of three sizes a factor of ten apart is decoded.
+
+decode_run reads a file and decodes all of its code; cjvm only reads it. Prints for each kind and size
+the bytes, both times, and their difference a byte, each as the least of several runs and net of the
+time of a program that reads nothing. Usage: bench/decoding.py (the programs are built by ./cjvm, and
+by `rt run` in crates/decode_run).
+"""
+import os
+import struct
+import tempfile
+
+from classes import class_file, method
+from program import CJVM, DECODE, least_time, need_programs
+
+LIMIT = 1_048_576
+RETURN = b"\xb1"
+
+
+def repeated(code, count):
+    """A class with so many methods of this code."""
+    names = [b"()V"] + [b"%04x" % i for i in range(count)]
+    return class_file(names, methods=[method(6 + i, 5, code) for i in range(count)])
+
+
+def plain(size):
+    """Loads, arithmetic and a branch back to the start, again and again."""
+    part = b"\x1a\x1b\x60\x3b\x1a\x10\x40\xa4\xff\xf8"
+    return part * ((size - 1) // len(part)) + RETURN
+
+
+def jumps(size):
+    """Each instruction jumps to the next."""
+    return b"\xa7\x00\x03" * ((size - 1) // 3) + RETURN
+
+
+def table_switch(size):
+    """One switch whose offsets fill the code; each leads to the return behind it."""
+    count = (size - 17) // 4
+    end = 16 + 4 * count
+    to = struct.pack(">i", end - 1)
+    return b"\x03\xaa\x00\x00" + to + struct.pack(">ii", 0, count - 1) + to * count + RETURN
+
+
+def lookup_switch(size):
+    count = (size - 13) // 8
+    end = 12 + 8 * count
+    to = struct.pack(">i", end - 1)
+    pairs = b"".join(struct.pack(">i", key) + to for key in range(count))
+    return b"\x03\xab\x00\x00" + to + struct.pack(">i", count) + pairs + RETURN
+
+
+def one(code):
+    return repeated(code, 1)
+
+
+KINDS = (
+    ("methods of 41 bytes", lambda count: repeated(plain(41), count), (120, 1200, 12000)),
+    ("methods of one byte", lambda count: repeated(RETURN, count), (280, 2800, 28000)),
+    ("one method, plain", lambda size: one(plain(size)), (655, 6553, 65535)),
+    ("one method, jumps", lambda size: one(jumps(size)), (655, 6553, 65535)),
+    ("one tableswitch", lambda size: one(table_switch(size)), (655, 6553, 65535)),
+    ("one lookupswitch", lambda size: one(lookup_switch(size)), (655, 6553, 65535)),
+    ("full tableswitches", lambda count: repeated(table_switch(65535), count), (1, 4, 15)),
+)
+
+
+def main():
+    need_programs(CJVM, DECODE)
+    with tempfile.TemporaryDirectory() as folder:
+        path = os.path.join(folder, "A.class")
+        with open(path, "wb") as out:
+            out.write(b"")
+        empty_read = least_time([CJVM, "run", path], 3)
+        empty_decode = least_time([DECODE, path], 0, None)
+        print(f"an empty file: {empty_read * 1000:.2f} ms, {empty_decode * 1000:.2f} ms")
+        for name, make, sizes in KINDS:
+            for size in sizes:
+                file = make(size)
+                assert len(file) <= LIMIT, (name, len(file))
+                with open(path, "wb") as out:
+                    out.write(file)
+                read = max(least_time([CJVM, "run", path], 14) - empty_read, 0)
+                both = max(least_time([DECODE, path], 0, None) - empty_decode, 0)
+                decode = max(both - read, 0) / len(file) * 1e9
+                print(
+                    f"{name:20} {len(file):8} bytes: read {read * 1000:6.2f} ms, and decoded "
+                    f"{both * 1000:6.2f} ms: decoding {decode:6.1f} ns a byte"
+                )
+
+
+main()

@@ -1,8 +1,0 @@
-use Rattle.class_file.specs.Formed.{FormedField}
-use Rattle.class_file.proofs.FormedLaws.{all_more}
-use Rattle.class_file.proofs.formed_member.are_formed_fields.Goals as goal
-
-pub loop-field-preserved : goal.loop-field-preserved
-loop-field-preserved c =
-    let here = c.is_formed_field.ensures.0 c.if-not-is_formed_field.false in
-    all_more (FormedField c.args.pool.now) c.args.fields.now c.loop-field.field-index _ c.loop-field.invariant c.loop-field-test.true here

@@ -1,7 +1,0 @@
-use Rattle.std.proofs.Common.{ℕ, ◌<◌, get_or}
-use Rattle.class_file.specs.declared.class.FieldItem.{FieldItem}
-use Rattle.class_file.specs.Formed.{FormedField}
-use Rattle.class_file.proofs.formed_member.are_formed_fields.Given as goal
-
-abbrev pub invariant-loop-field : goal.invariant-loop-field
-invariant-loop-field l = (k : ℕ) (d : FieldItem) → k < l.field-index → FormedField l.pool (get_or l.fields k d)

@@ -1,6 +1,0 @@
-use Rattle.std.specs.Prelude.{◌↔◌, drop, false}
-use Rattle.class_file.specs.Meaning.{AreItems}
-use Rattle.class_file.proofs.formed_pool.are_items.Given as goal
-
-abbrev pub invariant-loop-item : goal.invariant-loop-item
-invariant-loop-item l = AreItems false l.items ↔ AreItems l.after_wide (drop l.item-index l.items)

@@ -1,0 +1,6 @@
+pub mod Bytes
+pub mod Lengths
+pub mod FormedLaws
+pub mod Rooms
+pub mod KeyLaws
+pub mod FormedClass

@@ -1,0 +1,133 @@
+-- What is asked of a class file one part after the other, so that some bytes spell it.
+use Rattle.std.specs.Prelude.{◌≡◌, ◌↔◌, [], ◌∷◌, ◌++◌, ◌<◌, ◌^◌, ℕ, List, length, map, Bool, true, false, not, ◌&&◌, ◌||◌, nat_eq, Option, Some, None, All}
+use Rattle.std.specs.List.{list_any}
+use Rattle.std.specs.Option.{option_map_or}
+use Rattle.jvm_base.specs.declared.code_item.CodeItem.{CodeItem}
+use Rattle.jvm_base.specs.declared.pool.PoolItem.{PoolItem}
+use Rattle.class_format.specs.declared.class.ClassFile.{ClassFile}
+use Rattle.class_format.specs.declared.class.FieldItem.{FieldItem}
+use Rattle.class_format.specs.declared.class.MethodItem.{MethodItem}
+use Rattle.class_format.specs.declared.member_kind.MemberKind.{MemberKind}
+use Rattle.class_format.specs.declared.member_kind.MemberKind.TheVariants as kinds
+use Rattle.class_format.specs.Versions.{is_other_version}
+use Rattle.class_format.specs.Flags.{is_static, class_flags_clash}
+use Rattle.constant_pool.specs.Items.{text_of, is_text_that, is_class_at}
+use Rattle.constant_pool.specs.Links.{bad_link}
+use Rattle.constant_pool.specs.KnownTexts.{is_named, is_code, is_constant_value, is_constant_at}
+use Rattle.class_format.specs.Members.{is_without_receiver, is_desc_of, flags_clash, is_among, code_count}
+use Rattle.class_format.specs.Meaning.{FitsEntry, FitsLink, AreItems, IsPool, AreBytes}
+
+-- the item is a text that passes
+abbrev pub is_item_that : (List ℕ → Bool) → PoolItem → Bool
+is_item_that test item = option_map_or test (text_of item) false
+
+-- there is a text that passes
+abbrev pub has_text_that : (List ℕ → Bool) → List PoolItem → Bool
+has_text_that test pool = list_any (is_item_that test) pool
+
+-- its items fit and are linked
+pub record FormedPool (pool : List PoolItem) : Type 0 where
+  pub items : IsPool pool
+  pub count : length pool < 2 ^ 16
+
+-- an item behind one, where `after_wide` says whether that one was wide, and whether it is wide itself
+abbrev pub Follows : PoolItem → Bool → Option Bool → Type 0
+Follows item after_wide None = (items : List PoolItem) → ¬ AreItems after_wide (item ∷ items)
+Follows item after_wide (Some wide) = (items : List PoolItem) → AreItems after_wide (item ∷ items) ↔ AreItems wide items
+
+-- ---- fields and methods by themselves
+
+-- three numbers of two bytes
+abbrev pub FitsHead : (flags name desc : ℕ) → Type 0
+FitsHead flags name desc = (flags < 2 ^ 16) × (name < 2 ^ 16) × (desc < 2 ^ 16)
+
+-- a name, a descriptor and flags that go together
+abbrev pub head_passes : MemberKind → List PoolItem → ℕ → ℕ → ℕ → Bool
+head_passes kind pool flags name desc =
+    is_text_that is_named pool name
+    && is_desc_of kind (is_without_receiver pool flags name) pool desc
+    && not (flags_clash kind (is_without_receiver pool flags name) flags)
+
+-- a constant stands only at a static field, and needs the name of its attribute in the pool
+abbrev pub constant_passes : List PoolItem → ℕ → ℕ → Option ℕ → Bool
+constant_passes pool flags desc None = true
+constant_passes pool flags desc (Some value) = is_static flags && has_text_that is_constant_value pool && is_constant_at pool desc value
+
+-- the index of a constant, if any, takes two bytes
+abbrev pub FitsConstant : Option ℕ → Type 0
+FitsConstant None = Unit {0}
+FitsConstant (Some value) = value < 2 ^ 16
+
+-- a field by itself
+pub record FormedField (pool : List PoolItem) (f : FieldItem) : Type 0 where
+  pub fits : FitsHead f.flags f.name f.desc
+  pub head : head_passes kinds.Field pool f.flags f.name f.desc ≡ true
+  pub fits_constant : FitsConstant f.constant
+  pub constant : constant_passes pool f.flags f.desc f.constant ≡ true
+
+-- a code, which needs the name of its attribute in the pool
+pub record FormedCode (pool : List PoolItem) (c : CodeItem) : Type 0 where
+  pub max_stack : c.max_stack < 2 ^ 16
+  pub max_locals : c.max_locals < 2 ^ 16
+  pub some : 0 < length c.code
+  pub short : length c.code < 65536
+  pub bytes : AreBytes c.code
+  pub entries : All (FitsEntry pool) c.table
+  pub count : length c.table < 2 ^ 16
+  pub name : has_text_that is_code pool ≡ true
+
+-- the code that these flags ask for, or none
+abbrev pub FormedCodeOf : List PoolItem → ℕ → Option CodeItem → Type 0
+FormedCodeOf pool flags None = code_count flags ≡ 0
+FormedCodeOf pool flags (Some c) = (code_count flags ≡ 1) × FormedCode pool c
+
+-- a method by itself
+pub record FormedMethod (pool : List PoolItem) (m : MethodItem) : Type 0 where
+  pub fits : FitsHead m.flags m.name m.desc
+  pub head : head_passes kinds.Method pool m.flags m.name m.desc ≡ true
+  pub code : FormedCodeOf pool m.flags m.code
+
+-- ---- no two alike
+
+-- the indices of a field's name and descriptor
+abbrev pub field_key : FieldItem → ℕ × ℕ
+field_key f = (f.name, f.desc)
+
+-- the same of a method
+abbrev pub method_key : MethodItem → ℕ × ℕ
+method_key m = (m.name, m.desc)
+
+-- none is like an earlier one
+abbrev pub AreNew : {X : Type 0} → List PoolItem → (X → ℕ × ℕ) → (earlier : List X) → List X → Type 0
+AreNew pool key earlier [] = Unit {0}
+AreNew pool key earlier (x ∷ xs) = (is_among pool (map key earlier) (key x).0 (key x).1 ≡ false) × AreNew pool key (earlier ++ x ∷ []) xs
+
+-- ---- the parts of a class file
+
+-- version, flags and the classes that are named
+pub record FormedHead (c : ClassFile) (pool : List PoolItem) : Type 0 where
+  pub fits_minor : c.minor < 2 ^ 16
+  pub fits_major : c.major < 2 ^ 16
+  pub version : is_other_version c.major c.minor ≡ false
+  pub fits_flags : c.flags < 2 ^ 16
+  pub plain : class_flags_clash c.flags ≡ false
+  pub this_link : FitsLink pool c.this_class
+  pub fits_super : c.super_class < 2 ^ 16
+  pub super_link : (nat_eq c.super_class 0 || is_class_at pool c.super_class) ≡ true
+  pub interface_links : All (FitsLink pool) c.interfaces
+  pub interface_count : length c.interfaces < 2 ^ 16
+
+-- fields and methods, each by itself, and no two alike
+pub record FormedMembers (pool : List PoolItem) (fields : List FieldItem) (methods : List MethodItem) : Type 0 where
+  pub field_count : length fields < 2 ^ 16
+  pub method_count : length methods < 2 ^ 16
+  pub formed_fields : All (FormedField pool) fields
+  pub formed_methods : All (FormedMethod pool) methods
+  pub new_fields : AreNew pool field_key [] fields
+  pub new_methods : AreNew pool method_key [] methods
+
+-- what is asked beside the pool
+pub record FormedParts (c : ClassFile) (pool : List PoolItem) : Type 0 where
+  pub links : bad_link pool ≡ None
+  pub head : FormedHead c pool
+  pub members : FormedMembers pool c.fields c.methods

@@ -1,0 +1,7 @@
+pub mod Versions
+pub mod Flags
+pub mod Members
+pub mod Spelling
+pub mod Meaning
+pub mod Keys
+pub mod Formed

@@ -1,0 +1,17 @@
+//! What a class file is: its parts, its bytes, and which values have a spelling.
+#![tactic(auto)]
+
+mod class;
+mod flags;
+mod formed;
+mod formed_member;
+mod formed_pool;
+mod member_kind;
+mod members;
+mod version;
+
+pub use class::{ClassFile, FieldItem, MethodItem};
+pub use flags::{STATIC, class_flags_clash, has_flag};
+pub use formed::well_formed;
+pub use member_kind::{MemberKind, code_count, flags_clash, is_desc_of, is_without_receiver};
+pub use version::is_other_version;

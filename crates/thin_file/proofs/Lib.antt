@@ -1,0 +1,5 @@
+pub mod ThinOps
+pub mod ThinWritten
+pub mod ThinParts
+pub mod ThinFiles
+pub mod ThinClass
