@@ -18,14 +18,12 @@ use Rattle.class_file.specs.ClassReading.{version_at, linked, class_index_at, su
 use Rattle.class_format.specs.Flags.{class_flags_clash}
 use Rattle.constant_pool.specs.Items.{is_class_at}
 use Rattle.constant_pool.specs.Links.{bad_link}
-use Rattle.class_format.specs.Meaning.{AreBytes, FitsLink, IsPool, IsField, IsMethod, Means, IsClass, Spells}
+use Rattle.class_format.specs.Meaning.{AreBytes, FitsLink, IsPool, IsField, IsMethod, Means, IsClass, Spells, IsFront}
 use Rattle.class_file.specs.MemberReading.{other_at, field_at, method_at}
 use Rattle.class_file.specs.PoolReading.{pool_at}
 use Rattle.class_file.specs.Reading.{Place, Gives, offset_of, ◌>>=◌, number_at, counted_at, listed_at}
-use Rattle.class_file.specs.Refusals.{IsFront}
 use Rattle.class_format.specs.Spelling.{Source, number2, number4, listed, item_bytes, pool_bytes, attribute_bytes, member_bytes, source_bytes}
 use Rattle.class_file.proofs.AttributeLaws.{others_take, others_again}
-use Rattle.class_file.proofs.MeansFronts.{front_of}
 use Rattle.class_file.proofs.MemberLaws.{field_item, method_item}
 use Rattle.class_file.proofs.PartLaws.{IsItem, items_take, items_again, Itself, itself_is, itself_of}
 use Rattle.class_file.proofs.PlainLaws.{is_class}
@@ -272,19 +270,21 @@ members_take minor major pool start p z before e =
       interfaces = refl;
       fields = f.spelled;
       methods = m.spelled;
-      fits_minor = before.fits_minor;
-      fits_major = before.fits_major;
-      version = before.known;
-      items = before.items;
-      count = before.count;
-      links = links.0;
-      fits_flags = n.flags;
-      plain = n.plain;
-      this_link = n.this_link;
-      fits_super = n.super_link.0;
-      super_link = n.super_link.1;
-      interface_links = n.interfaces;
-      interface_count = n.count;
+      front = record {
+        fits_minor = before.fits_minor;
+        fits_major = before.fits_major;
+        version = before.known;
+        items = before.items;
+        count = before.count;
+        links = links.0;
+        fits_flags = n.flags;
+        plain = n.plain;
+        this_link = n.this_link;
+        fits_super = n.super_link.0;
+        super_link = n.super_link.1;
+        interface_links = n.interfaces;
+        interface_count = n.count;
+      };
       field_count = f.count;
       method_count = m.count;
       attributes = o.fits;
@@ -324,8 +324,8 @@ members_again s c t rest h =
     let methods_rest : List ℕ = listed member_bytes s.methods ++ others_rest in
     let fields_rest : List ℕ = listed member_bytes s.fields ++ methods_rest in
     let start : Place = at t (number2 s.flags ++ (number2 s.this_class ++ (number2 s.super_class ++ (listed number2 s.interfaces ++ fields_rest)))) in
-    linked_then (bad_link s.pool) _ _ h.links
-    (bind_then (names_at s.pool start) (names_of s, at t fields_rest) _ _ (names_again s t fields_rest (front_of s c h))
+    linked_then (bad_link s.pool) _ _ h.front.links
+    (bind_then (names_at s.pool start) (names_of s, at t fields_rest) _ _ (names_again s t fields_rest h.front)
     (bind_then (listed_at (field_at s.pool) (at t fields_rest)) (c.fields, at t methods_rest) _ _ (items_again (field_at s.pool) member_bytes (IsField s.pool) (field_item s.pool) s.fields c.fields t methods_rest h.fields h.field_count)
     (bind_then (listed_at (method_at s.pool) (at t methods_rest)) (c.methods, at t others_rest) _ _ (items_again (method_at s.pool) member_bytes (IsMethod s.pool) (method_item s.pool) s.methods c.methods t others_rest h.methods h.method_count)
     (bind_then (counted_at (other_at s.pool) tt (at t others_rest)) (tt, at t rest) _ _ (others_again s.pool s.attributes t rest h.attributes) refl))))
@@ -345,9 +345,9 @@ body_again s c t rest h =
     ∙ ap (λ (bytes : List ℕ). version ++ bytes) (append_assoc (number2 (length s.pool)) (flat_map item_bytes s.pool) after) in
     let members : Members = record { names = names_of s; fields = c.fields; methods = c.methods } in
     ap (λ (bytes : List ℕ). class_body_at (at t bytes)) regrouped
-    ∙ bind_then (version_at (at t (version ++ count_rest))) ((s.minor, s.major), at t count_rest) _ _ (version_again s.minor s.major t count_rest h.fits_minor h.fits_major h.version)
-    (bind_then (number_at w16 (at t count_rest)) (length s.pool, at t pool_rest) _ _ (read2.again (length s.pool) t pool_rest h.count)
-    (bind_then (pool_at (length s.pool) (at t pool_rest)) (s.pool, at t after) _ _ (pool_again s.pool t after h.items)
+    ∙ bind_then (version_at (at t (version ++ count_rest))) ((s.minor, s.major), at t count_rest) _ _ (version_again s.minor s.major t count_rest h.front.fits_minor h.front.fits_major h.front.version)
+    (bind_then (number_at w16 (at t count_rest)) (length s.pool, at t pool_rest) _ _ (read2.again (length s.pool) t pool_rest h.front.count)
+    (bind_then (pool_at (length s.pool) (at t pool_rest)) (s.pool, at t after) _ _ (pool_again s.pool t after h.front.items)
     (bind_then (members_at s.pool (at t after)) (members, at t rest) _ _ (members_again s c t rest h)
     (ap (λ (d : ClassFile). Ok (d, at t rest)) (means_is s c h)))))
 

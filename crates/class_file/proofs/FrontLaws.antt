@@ -11,13 +11,13 @@ use Rattle.class_file.specs.declared.class_reader.Names.{Names}
 use Rattle.class_file.specs.declared.error.ClassErr.{ClassErr}
 use Rattle.class_file.specs.declared.error.ClassErr.TheVariants as errors
 use Rattle.constant_pool.specs.Links.{bad_link}
-use Rattle.class_format.specs.Meaning.{AreBytes, IsField, IsMethod, Spelled}
+use Rattle.class_format.specs.Meaning.{AreBytes, IsField, IsMethod, Spelled, IsFront}
 use Rattle.class_file.specs.MemberReading.{field_at, method_at, other_at}
 use Rattle.class_file.specs.Reading.{Place, offset_of, ◌>>=◌, number_at, counted_at, listed_at}
 use Rattle.class_format.specs.Spelling.{Member, Source, number2, listed, item_bytes, pool_bytes, member_bytes}
 use Rattle.class_file.specs.ClassReading.{version_at, names_at, members_at, class_body_at, class_at}
 use Rattle.class_file.specs.PoolReading.{pool_at}
-use Rattle.class_file.specs.Refusals.{front_bytes, IsFront, begun_bytes, field_front_bytes, IsFieldFront, method_front_bytes, IsMethodFront}
+use Rattle.class_file.specs.Refusals.{front_bytes, begun_bytes, field_front_bytes, IsFieldFront, method_front_bytes, IsMethodFront}
 use Rattle.class_file.proofs.ClassLaws.{version_bytes, version_takes, version_again, IsVersion, names_take, names_of, names_again, named_is, linked_then}
 use Rattle.class_file.proofs.PoolLaws.{has_count, pool_takes, pool_again}
 use Rattle.class_file.proofs.MemberLaws.{field_item, method_item}

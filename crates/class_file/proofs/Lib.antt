@@ -7,7 +7,6 @@ pub mod AttributeLaws
 pub mod CodeLaws
 pub mod KeptLaws
 pub mod MemberLaws
-pub mod MeansFronts
 pub mod ClassLaws
 pub mod PlainLaws
 pub mod Refusals

@@ -8,9 +8,9 @@ use Rattle.class_format.specs.declared.class.MethodItem.{MethodItem}
 use Rattle.class_file.specs.AttributeRefusals.{field_attribute_front, IsFieldAttributeFront, method_attribute_front, IsMethodAttributeFront, IsConstantHead, IsCodeHead}
 use Rattle.constant_pool.specs.Items.{is_text_at, is_class_at}
 use Rattle.class_file.specs.LinkRefusals.{HasBadClass, HasBadHead}
-use Rattle.class_format.specs.Meaning.{AreBytes, FitsAttribute, FitsEntry, IsField, IsMethod, Spelled}
+use Rattle.class_format.specs.Meaning.{AreBytes, FitsAttribute, FitsEntry, IsField, IsMethod, Spelled, IsFront}
 use Rattle.constant_pool.specs.KnownTexts.{is_constant_at}
-use Rattle.class_file.specs.Refusals.{front_bytes, IsFront}
+use Rattle.class_file.specs.Refusals.{front_bytes}
 use Rattle.class_format.specs.Spelling.{Attribute, Member, Source, number2, number4, listed, attribute_bytes, member_bytes, table_bytes}
 
 -- ---- names of attributes

@@ -13,7 +13,7 @@ use Rattle.class_format.specs.Versions.{is_other_version}
 use Rattle.class_format.specs.Flags.{class_flags_clash}
 use Rattle.constant_pool.specs.Items.{is_class_at}
 use Rattle.constant_pool.specs.Links.{bad_link}
-use Rattle.class_format.specs.Meaning.{IsPool, IsMember, IsField, IsMethod, FitsLink, Means, Spelled}
+use Rattle.class_format.specs.Meaning.{IsPool, IsMember, IsField, IsMethod, FitsLink, Means, Spelled, IsFront}
 use Rattle.class_format.specs.Members.{is_among, field_keys, method_keys}
 use Rattle.class_format.specs.Spelling.{Member, Source, number2, number4, listed, item_bytes, pool_bytes, member_bytes, source_bytes}
 
@@ -115,22 +115,6 @@ abbrev pub front_bytes : Source → List ℕ
 front_bytes s =
     (number4 3405691582 ++ number2 s.minor ++ number2 s.major) ++ pool_bytes s.pool
     ++ number2 s.flags ++ number2 s.this_class ++ number2 s.super_class ++ listed number2 s.interfaces
-
--- what a class file asks of it
-pub record IsFront (s : Source) : Type 0 where
-  pub fits_minor : s.minor < 2 ^ 16
-  pub fits_major : s.major < 2 ^ 16
-  pub version : is_other_version s.major s.minor ≡ false
-  pub items : IsPool s.pool
-  pub count : length s.pool < 2 ^ 16
-  pub links : bad_link s.pool ≡ None
-  pub fits_flags : s.flags < 2 ^ 16
-  pub plain : class_flags_clash s.flags ≡ false
-  pub this_link : FitsLink s.pool s.this_class
-  pub fits_super : s.super_class < 2 ^ 16
-  pub super_link : (nat_eq s.super_class 0 || is_class_at s.pool s.super_class) ≡ true
-  pub interface_links : AllByRecursion (FitsLink s.pool) s.interfaces
-  pub interface_count : length s.interfaces < 2 ^ 16
 
 -- ---- the front of a field or a method
 

@@ -177,29 +177,31 @@ class_is c pool parts = let head = parts.head in let members = parts.members in 
   interfaces = refl;
   fields = fields_are c.pool [] c.fields pool.count (by_recursion (FormedField c.pool) c.fields members.formed_fields) members.new_fields;
   methods = methods_are c.pool [] c.methods pool.count (by_recursion (FormedMethod c.pool) c.methods members.formed_methods) members.new_methods;
-  fits_minor = head.fits_minor;
-  fits_major = head.fits_major;
-  version = head.version;
-  items = pool.items;
-  count = pool.count;
-  links = parts.links;
-  fits_flags = head.fits_flags;
-  plain = head.plain;
-  this_link = head.this_link;
-  fits_super = head.fits_super;
-  super_link = head.super_link;
-  interface_links = by_recursion (FitsLink c.pool) c.interfaces head.interface_links;
-  interface_count = head.interface_count;
+  front = record {
+    fits_minor = head.fits_minor;
+    fits_major = head.fits_major;
+    version = head.version;
+    items = pool.items;
+    count = pool.count;
+    links = parts.links;
+    fits_flags = head.fits_flags;
+    plain = head.plain;
+    this_link = head.this_link;
+    fits_super = head.fits_super;
+    super_link = head.super_link;
+    interface_links = by_recursion (FitsLink c.pool) c.interfaces head.interface_links;
+    interface_count = head.interface_count;
+  };
   field_count = omega (arith, length-map c.fields (plain_field c.pool), members.field_count);
   method_count = omega (arith, length-map c.methods (plain_method c.pool), members.method_count);
   attributes = (tt, omega arith);
 }
 
 pool_formed : (c : ClassFile) → IsClass c → FormedPool c.pool
-pool_formed c is = record { items = is.items; count = is.count }
+pool_formed c is = record { items = is.front.items; count = is.front.count }
 
 head_formed : (c : ClassFile) → IsClass c → FormedHead c c.pool
-head_formed c is = record { fits_minor = is.fits_minor; fits_major = is.fits_major; version = is.version; fits_flags = is.fits_flags; plain = is.plain; this_link = is.this_link; fits_super = is.fits_super; super_link = is.super_link; interface_links = all_of (FitsLink c.pool) c.interfaces is.interface_links; interface_count = is.interface_count }
+head_formed c is = record { fits_minor = is.front.fits_minor; fits_major = is.front.fits_major; version = is.front.version; fits_flags = is.front.fits_flags; plain = is.front.plain; this_link = is.front.this_link; fits_super = is.front.fits_super; super_link = is.front.super_link; interface_links = all_of (FitsLink c.pool) c.interfaces is.front.interface_links; interface_count = is.front.interface_count }
 
 members_formed : (c : ClassFile) → IsClass c → FormedMembers c.pool c.fields c.methods
 members_formed c is =
@@ -215,7 +217,7 @@ members_formed c is =
     }
 
 parts_formed : (c : ClassFile) → IsClass c → FormedParts c c.pool
-parts_formed c is = record { links = is.links; head = head_formed c is; members = members_formed c is }
+parts_formed c is = record { links = is.front.links; head = head_formed c is; members = members_formed c is }
 
 -- the parts, asked one after the other of the pool that the class file has
 pub is_class : (c : ClassFile) (pool : List PoolItem) → pool ≡ c.pool → FormedPool pool × FormedParts c pool → IsClass c

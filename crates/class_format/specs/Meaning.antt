@@ -154,17 +154,8 @@ Spelled Is earlier (a ∷ sources) (x ∷ xs) = Is earlier a x × Spelled Is (ea
 abbrev pub FitsLink : List PoolItem → ℕ → Type 0
 FitsLink pool n = (n < 2 ^ 16) × (is_class_at pool n ≡ true)
 
--- the class file that is spelled so
-pub record Means (s : Source) (c : ClassFile) : Type 0 where
-  pub minor : c.minor ≡ s.minor
-  pub major : c.major ≡ s.major
-  pub pool : c.pool ≡ s.pool
-  pub flags : c.flags ≡ s.flags
-  pub this_class : c.this_class ≡ s.this_class
-  pub super_class : c.super_class ≡ s.super_class
-  pub interfaces : c.interfaces ≡ s.interfaces
-  pub fields : Spelled (IsField s.pool) [] s.fields c.fields
-  pub methods : Spelled (IsMethod s.pool) [] s.methods c.methods
+-- what is asked of a class file up to its fields
+pub record IsFront (s : Source) : Type 0 where
   pub fits_minor : s.minor < 2 ^ 16
   pub fits_major : s.major < 2 ^ 16
   pub version : is_other_version s.major s.minor ≡ false
@@ -178,6 +169,19 @@ pub record Means (s : Source) (c : ClassFile) : Type 0 where
   pub super_link : (nat_eq s.super_class 0 || is_class_at s.pool s.super_class) ≡ true
   pub interface_links : AllByRecursion (FitsLink s.pool) s.interfaces
   pub interface_count : length s.interfaces < 2 ^ 16
+
+-- the class file that is spelled so
+pub record Means (s : Source) (c : ClassFile) : Type 0 where
+  pub front : IsFront s
+  pub minor : c.minor ≡ s.minor
+  pub major : c.major ≡ s.major
+  pub pool : c.pool ≡ s.pool
+  pub flags : c.flags ≡ s.flags
+  pub this_class : c.this_class ≡ s.this_class
+  pub super_class : c.super_class ≡ s.super_class
+  pub interfaces : c.interfaces ≡ s.interfaces
+  pub fields : Spelled (IsField s.pool) [] s.fields c.fields
+  pub methods : Spelled (IsMethod s.pool) [] s.methods c.methods
   pub field_count : length s.fields < 2 ^ 16
   pub method_count : length s.methods < 2 ^ 16
   pub attributes : AreAttributes s.pool s.attributes

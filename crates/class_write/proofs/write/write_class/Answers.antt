@@ -10,9 +10,9 @@ pub write-requires : goal.write-requires
 write-requires c =
     let class = c.args.class.now in
     record {
-      pool = c.requires.count;
-      items = all_of FitsWritten class.pool (pool-written class.pool c.requires.items);
-      interfaces = c.requires.interface_count;
+      pool = c.requires.front.count;
+      items = all_of FitsWritten class.pool (pool-written class.pool c.requires.front.items);
+      interfaces = c.requires.front.interface_count;
       fields = count-fits (plain_field class.pool) class.fields c.requires.field_count;
       methods = count-fits (plain_method class.pool) class.methods c.requires.method_count;
       codes = all_of (λ m. FitsCode m.code) class.methods (codes-fit class.pool [] class.methods c.requires.methods);
