@@ -78,12 +78,12 @@ count_is bytes m fits h =
     elim (class_refused bytes (errors.CodeCount m) tt fits h) [
       | in_version bad at ↦ absurd bad
       | in_pool bad version count v c lt at ↦ absurd bad
-      | in_links i is ↦ absurd (let k = is in cc)
+      | in_links bad ↦ absurd (let k = bad.is in cc)
       | in_names bad at ↦ absurd bad
       | in_field bad at ↦ absurd bad
       | in_method may at ↦ other_count bytes m at
       | in_others bad at ↦ absurd bad
-      | in_end n is ↦ absurd (let k = is in cc)
+      | in_end end ↦ absurd (let k = end.extra in cc)
     ]
 
 count_fails : (pool : List PoolItem) (earlier : List MethodItem) (m : Member) (t : ℕ) (rest : List ℕ) → IsNewMethod pool earlier m → length (contents_of (holds_code pool) m.attributes) ≢ code_count m.flags

@@ -196,12 +196,12 @@ flags_are bytes n fits h =
     elim (class_refused bytes (errors.Flags n) tt fits h) [
       | in_version bad at ↦ absurd bad
       | in_pool bad version count v c lt at ↦ absurd bad
-      | in_links i is ↦ absurd (let k = is in cc)
+      | in_links bad ↦ absurd (let k = bad.is in cc)
       | in_names may at ↦ inl (class_clash bytes n at)
       | in_field may at ↦ inr (inl (field_clash bytes n at))
       | in_method may at ↦ inr (inr (method_clash bytes n at))
       | in_others bad at ↦ absurd bad
-      | in_end m is ↦ absurd (let k = is in cc)
+      | in_end end ↦ absurd (let k = end.extra in cc)
     ]
 
 pub flags_come : (bytes : List ℕ) (n : ℕ) → HasClash bytes n → class_at bytes ≡ Err (errors.Flags n)

@@ -1,9 +1,10 @@
 -- Where a class file is refused: before its fields, in its fields or its methods, or behind them.
-use Rattle.std.proofs.Common.{◌≡◌, ℕ, ◌<◌, ◌^◌, eqb, None, List, [], ◌++◌, length, Result, Ok, Err, refl, sym, ap, subst, ◌∙◌, inl, inr, append_assoc, arith}
+use Rattle.std.proofs.Common.{◌≡◌, ℕ, ◌<◌, ◌^◌, eqb, false, Some, None, List, [], ◌++◌, length, Result, Ok, Err, refl, sym, ap, subst, ◌∙◌, inl, inr, append_assoc, arith}
 use Rattle.std.specs.Int.{w16}
 use Rattle.std.specs.List.{flat_map}
 use Rattle.jvm_base.specs.declared.pool.PoolItem.{PoolItem}
 use Rattle.jvm_base.proofs.Refusing.{bind_then, bind_err, need_err, fails_then}
+use Rattle.class_format.specs.declared.class.ClassFile.{ClassFile}
 use Rattle.class_format.specs.declared.class.FieldItem.{FieldItem}
 use Rattle.class_format.specs.declared.class.MethodItem.{MethodItem}
 use Rattle.class_file.specs.declared.class_reader.Members.{Members}
@@ -158,15 +159,34 @@ pub record AtOthers (bytes : List ℕ) (e : ClassErr) : Type 0 where
   pub took : Takes (whole_file bytes) ((front_bytes source ++ listed member_bytes source.fields) ++ listed member_bytes source.methods) behind
   pub refused : counted_at (other_at source.pool) tt behind ≡ Err e
 
+-- a pool that was read, and has a bad link
+pub record BadPool (bytes : List ℕ) (e : ClassErr) : Type 0 where
+  pub version : (ℕ × ℕ) × Place
+  pub count : ℕ × Place
+  pub pool : List PoolItem × Place
+  pub i : ℕ
+  pub version_is : version_at (whole_file bytes) ≡ Ok version
+  pub count_is : number_at w16 version.1 ≡ Ok count
+  pub pool_is : pool_at count.0 count.1 ≡ Ok pool
+  pub link : bad_link pool.0 ≡ Some i
+  pub is : errors.PoolLink i ≡ e
+
+-- bytes behind a class file
+pub record Behind (bytes : List ℕ) (e : ClassErr) : Type 0 where
+  pub class : ClassFile × Place
+  pub is : class_body_at (whole_file bytes) ≡ Ok class
+  pub some : eqb (length class.1.rest) 0 ≡ false
+  pub extra : errors.Extra (offset_of class.1) ≡ e
+
 pub data Refused (bytes : List ℕ) (e : ClassErr) : Type 0 where
   in_version : OfVersion (length bytes) e → version_at (whole_file bytes) ≡ Err e → Refused bytes e
   in_pool : OfPool (length bytes) e → (version : (ℕ × ℕ) × Place) → (count : ℕ × Place) → IsVersion (whole_file bytes) version → Takes version.1 (number2 count.0) count.1 → count.0 < 2 ^ 16 → pool_at count.0 count.1 ≡ Err e → Refused bytes e
-  in_links : (i : ℕ) → errors.PoolLink i ≡ e → Refused bytes e
+  in_links : BadPool bytes e → Refused bytes e
   in_names : OfNames (length bytes) e → AtNames bytes e → Refused bytes e
   in_field : OfFields (length bytes) e → AtField bytes e → Refused bytes e
   in_method : OfMembers (length bytes) e → AtMethod bytes e → Refused bytes e
   in_others : OfLinks (length bytes) e → AtOthers bytes e → Refused bytes e
-  in_end : (n : ℕ) → errors.Extra n ≡ e → Refused bytes e
+  in_end : Behind bytes e → Refused bytes e
 
 field_stops : (bytes : List ℕ) (e : ClassErr) (pool : List PoolItem) (names : Names × Place) → TookFront (whole_file bytes) pool names → StopsBehind (field_at pool) member_bytes (IsField pool) names.1 e → AtField bytes e
 field_stops bytes e pool names f stop = record {
@@ -247,7 +267,7 @@ unfolding members_at
 members_refuse bytes e not_cut fits version count pool version_is count_is pool_is same h =
     let t : ℕ = length bytes in
     elim (linked_err (bad_link pool.0) _ e h) [
-      | inl bad ↦ in_links bad.0 bad.2
+      | inl bad ↦ in_links (record { version = version; count = count; pool = pool; i = bad.0; version_is = version_is; count_is = count_is; pool_is = pool_is; link = bad.1; is = bad.2 })
       | inr good ↦ elim (bind_err (names_at pool.0 pool.1) _ e good.1) [
         | inl bad ↦
             let v = version_takes (whole_file bytes) version fits version_is in
@@ -290,7 +310,7 @@ class_refused bytes e not_cut fits h =
     elim (bind_err (class_body_at (whole_file bytes)) _ e h) [
       | inl bad ↦ body_refuses bytes e not_cut fits bad
       | inr class ↦ elim (need_err (eqb (length class.0.1.rest) 0) (errors.Extra (offset_of class.0.1)) _ e class.2) [
-        | inl more ↦ in_end (offset_of class.0.1) more.1
+        | inl more ↦ in_end (record { class = class.0; is = class.1; some = more.0; extra = more.1 })
         | inr none ↦ absurd (let k = none.1 in cc)
       ]
     ]

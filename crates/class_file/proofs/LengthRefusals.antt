@@ -85,12 +85,12 @@ length_is bytes m fits h =
     elim (class_refused bytes (errors.CodeLength m) tt fits h) [
       | in_version bad at ↦ absurd bad
       | in_pool bad version count v c lt at ↦ absurd bad
-      | in_links i is ↦ absurd (let k = is in cc)
+      | in_links bad ↦ absurd (let k = bad.is in cc)
       | in_names bad at ↦ absurd bad
       | in_field bad at ↦ absurd bad
       | in_method may at ↦ method_length bytes m at
       | in_others bad at ↦ absurd bad
-      | in_end n is ↦ absurd (let k = is in cc)
+      | in_end end ↦ absurd (let k = end.extra in cc)
     ]
 
 is_out_of_range : (n : ℕ) → OutOfRange n → (nat_lt 0 n && nat_lt n 65536) ≡ false
@@ -314,7 +314,7 @@ size_is bytes n fits h =
     elim (class_refused bytes (errors.AttrLength n) tt fits h) [
       | in_version bad at ↦ absurd bad
       | in_pool bad version count v c lt at ↦ absurd bad
-      | in_links i is ↦ absurd (let k = is in cc)
+      | in_links bad ↦ absurd (let k = bad.is in cc)
       | in_names bad at ↦ absurd bad
       | in_field may at ↦ elim (field_size bytes n at) [
         | inl second ↦ inl second
@@ -322,7 +322,7 @@ size_is bytes n fits h =
       ]
       | in_method may at ↦ inr (inr (method_size bytes n at))
       | in_others bad at ↦ absurd bad
-      | in_end m is ↦ absurd (let k = is in cc)
+      | in_end end ↦ absurd (let k = end.extra in cc)
     ]
 
 pub size_comes : (bytes : List ℕ) (n : ℕ) → HasWrongSize bytes n → class_at bytes ≡ Err (errors.AttrLength n)

@@ -13,6 +13,7 @@ pub mod Refusals
 pub mod RefusalLaws
 pub mod StopLaws
 pub mod FrontLaws
+pub mod EdgeRefusals
 pub mod MagicLaws
 pub mod PoolStops
 pub mod PoolRefusals

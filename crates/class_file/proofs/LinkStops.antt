@@ -299,12 +299,12 @@ number_is bytes n fits h =
     elim (class_refused bytes (errors.ItemLink n) tt fits h) [
       | in_version bad at ↦ absurd bad
       | in_pool bad version count v c lt at ↦ absurd bad
-      | in_links i is ↦ absurd (let k = is in cc)
+      | in_links bad ↦ absurd (let k = bad.is in cc)
       | in_names may at ↦ inl (class_link bytes n at)
       | in_field may at ↦ field_number bytes n at
       | in_method may at ↦ method_number bytes n at
       | in_others may at ↦ in_attribute bytes n (inr (inr (inl (class_name_number bytes n at))))
-      | in_end m is ↦ absurd (let k = is in cc)
+      | in_end end ↦ absurd (let k = end.extra in cc)
     ]
 
 pub number_comes : (bytes : List ℕ) (n : ℕ) → HasBadNumber bytes n → class_at bytes ≡ Err (errors.ItemLink n)

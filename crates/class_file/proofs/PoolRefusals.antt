@@ -177,12 +177,12 @@ text_is bytes i fits h =
     elim (class_refused bytes (errors.PoolText i) tt fits h) [
       | in_version bad at ↦ absurd bad
       | in_pool may version count v c lt at ↦ bad_text bytes i (pool_item bytes (errors.PoolText i) tt fits version count v c lt at)
-      | in_links j is ↦ absurd (let k = is in cc)
+      | in_links bad ↦ absurd (let k = bad.is in cc)
       | in_names bad at ↦ absurd bad
       | in_field bad at ↦ absurd bad
       | in_method bad at ↦ absurd bad
       | in_others bad at ↦ absurd bad
-      | in_end m is ↦ absurd (let k = is in cc)
+      | in_end end ↦ absurd (let k = end.extra in cc)
     ]
 
 pub text_comes : (bytes : List ℕ) (i : ℕ) → HasBadText bytes i → class_at bytes ≡ Err (errors.PoolText i)
@@ -230,12 +230,12 @@ tag_is bytes i fits h =
     elim (class_refused bytes (errors.PoolTag i) tt fits h) [
       | in_version bad at ↦ absurd bad
       | in_pool may version count v c lt at ↦ bad_tag bytes i (pool_item bytes (errors.PoolTag i) tt fits version count v c lt at)
-      | in_links j is ↦ absurd (let k = is in cc)
+      | in_links bad ↦ absurd (let k = bad.is in cc)
       | in_names bad at ↦ absurd bad
       | in_field bad at ↦ absurd bad
       | in_method bad at ↦ absurd bad
       | in_others bad at ↦ absurd bad
-      | in_end m is ↦ absurd (let k = is in cc)
+      | in_end end ↦ absurd (let k = end.extra in cc)
     ]
 
 cond_no : {A : Type 0} (b : Bool) (x y z : A) → b ≡ false → y ≡ z → cond b x y ≡ z

@@ -13,9 +13,10 @@ use Rattle.class_file.proofs.CountRefusals.{count_is, count_comes}
 use Rattle.class_file.proofs.FlagRefusals.{flags_are, flags_come}
 use Rattle.class_file.proofs.LengthRefusals.{length_is, length_comes, size_is, size_comes}
 use Rattle.class_file.proofs.LinkStops.{number_is, number_comes}
-use Rattle.class_file.proofs.MagicLaws.{magic_is, magic_comes}
+use Rattle.class_file.proofs.EdgeRefusals.{link_is, link_comes, extra_is, extra_comes, never_memory}
+use Rattle.class_file.proofs.MagicLaws.{magic_is, magic_comes, version_is, version_comes}
 use Rattle.class_file.proofs.PoolRefusals.{tag_is, tag_comes, text_is, text_comes}
-use Rattle.class_file.proofs.RefusalLaws.{cut_is, extra_is, extra_comes, link_is, link_comes, version_is, version_comes, never_memory}
+use Rattle.class_file.proofs.RefusalLaws.{cut_is}
 use Rattle.class_file.proofs.TwiceLaws.{twice_is}
 use Rattle.class_file.proofs.TwiceComes.{twice_comes}
 
@@ -64,7 +65,7 @@ refused_is bytes (CodeCount m) fits h = count_is bytes m fits h
 refused_is bytes (Twice n) fits h = twice_is bytes n fits h
 refused_is bytes (Extra n) fits h = extra_is bytes n fits h
 refused_is bytes (Cut n) fits h = (cut_is bytes n h, cut_off bytes n h)
-refused_is bytes NoMemory fits h = absurd (never_memory bytes h)
+refused_is bytes NoMemory fits h = absurd (never_memory bytes fits h)
 
 -- ---- where nothing else can be told
 

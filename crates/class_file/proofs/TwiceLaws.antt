@@ -77,10 +77,10 @@ twice_is bytes n fits h =
     elim (class_refused bytes (errors.Twice n) tt fits h) [
       | in_version bad at ↦ absurd bad
       | in_pool bad version count v c lt at ↦ absurd bad
-      | in_links i is ↦ absurd (let k = is in cc)
+      | in_links bad ↦ absurd (let k = bad.is in cc)
       | in_names bad at ↦ absurd bad
       | in_field may at ↦ inl (field_twin bytes n at)
       | in_method may at ↦ inr (method_twin bytes n at)
       | in_others bad at ↦ absurd bad
-      | in_end m is ↦ absurd (let k = is in cc)
+      | in_end end ↦ absurd (let k = end.extra in cc)
     ]

@@ -1,6 +1,6 @@
 -- What some refusals say of the bytes, in the words of the spelling.
-use Rattle.std.specs.Prelude.{◌≡◌, ◌≢◌, ◌⊎◌, ◌<◌, ◌^◌, ℕ, ◌+◌, List, [], ◌∷◌, ◌++◌, length, Bool, true, false, not, ◌&&◌, ◌||◌, nat_eq, nat_lt, Some, None}
-use Rattle.std.specs.List.{flat_map, AllByRecursion}
+use Rattle.std.specs.Prelude.{◌≡◌, ◌≢◌, ◌⊎◌, ◌<◌, ◌^◌, ℕ, ◌+◌, List, [], ◌∷◌, ◌++◌, length, Bool, true, false, not, ◌&&◌, ◌||◌, nat_eq, nat_lt, Some}
+use Rattle.std.specs.List.{flat_map}
 use Rattle.jvm_base.specs.declared.pool.PoolItem.{PoolItem}
 use Rattle.jvm_base.specs.Text.{text_bytes}
 use Rattle.jvm_base.specs.Units.{AreUnits}
@@ -10,10 +10,8 @@ use Rattle.class_format.specs.declared.class.MethodItem.{MethodItem}
 use Rattle.class_format.specs.declared.member_kind.MemberKind.{MemberKind}
 use Rattle.class_format.specs.declared.member_kind.MemberKind.TheVariants as kinds
 use Rattle.class_format.specs.Versions.{is_other_version}
-use Rattle.class_format.specs.Flags.{class_flags_clash}
-use Rattle.constant_pool.specs.Items.{is_class_at}
 use Rattle.constant_pool.specs.Links.{bad_link}
-use Rattle.class_format.specs.Meaning.{IsPool, IsMember, IsField, IsMethod, FitsLink, Means, Spelled, IsFront}
+use Rattle.class_format.specs.Meaning.{IsPool, IsMember, IsField, IsMethod, Means, Spelled, IsFront}
 use Rattle.class_format.specs.Members.{is_among, field_keys, method_keys}
 use Rattle.class_format.specs.Spelling.{Member, Source, number2, number4, listed, item_bytes, pool_bytes, member_bytes, source_bytes}
 

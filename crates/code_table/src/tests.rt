@@ -105,6 +105,60 @@ fn single_instructions(rt: HostRuntime) {
     }
 }
 
+/// For each opcode, in rows of 16 (JVMS2 9): `o` is one of an instruction, `l` one that is left out,
+/// `u` one of none. Behind 196 here stands a 0, which has no wide form.
+const OPCODES: [[u8; 16]; 16] = [
+    *b"ooooooooooolllll",
+    *b"ooooooollooooooo",
+    *b"oolllllllloooooo",
+    *b"lloooooolloooooo",
+    *b"ooollllllllooooo",
+    *b"ollooooooooooooo",
+    *b"oolloolloollooll",
+    *b"oolloolloooooooo",
+    *b"oooooollolllllll",
+    *b"loooollllooooooo",
+    *b"oooooooollooooll",
+    *b"oooooooooouooooo",
+    *b"oooouooooluuuuuu",
+    *b"uuuuuuuuuuuuuuuu",
+    *b"uuuuuuuuuuuuuuuu",
+    *b"uuuuuuuuuuuuuuuu",
+];
+
+/// The letter of code whose first byte is asked.
+fn letter(alloc: Global, code: &[u8]) -> u8 {
+    match decoded(alloc, code, &[]) {
+        Err(CodeErr::UnknownOp(0)) => b'u',
+        Err(CodeErr::LeftOutOp(0)) => b'l',
+        _ => b'o',
+    }
+}
+
+#[test]
+fn opcodes(rt: HostRuntime) {
+    for (high, row) in OPCODES.iter().enumerate() {
+        for (low, want) in row.iter().enumerate() {
+            let op = (16 * high + low) as u8;
+            let code = [op, 0, 0, 0, 0, 0, 0, 0];
+            assert_eq!(rt; letter(rt.alloc(), &code), *want, "{op}");
+        }
+    }
+}
+
+#[test]
+fn opcodes_behind_wide(rt: HostRuntime) {
+    for op in 0..=255u8 {
+        let want = match op {
+            21 | 22 | 25 | 54 | 55 | 58 | 132 => b'o',
+            23 | 24 | 56 | 57 | 169 => b'l',
+            _ => b'u',
+        };
+        let code = [196, op, 0, 0, 0, 0, 0, 0];
+        assert_eq!(rt; letter(rt.alloc(), &code), want, "{op}");
+    }
+}
+
 #[test]
 fn switches(rt: HostRuntime) {
     let cases: [(&[u8], Result<usize, CodeErr>); 9] = [

@@ -1,4 +1,4 @@
-use Rattle.class_file.proofs.RefusalLaws.{extra_is, extra_comes}
+use Rattle.class_file.proofs.EdgeRefusals.{extra_is, extra_comes}
 use Rattle.class_file.proofs.laws.extra_is_what_follows.Goals as goal
 
 pub returns-clause-says : goal.returns-clause-says

@@ -1,4 +1,4 @@
-use Rattle.class_file.proofs.RefusalLaws.{link_is, link_comes}
+use Rattle.class_file.proofs.EdgeRefusals.{link_is, link_comes}
 use Rattle.class_file.proofs.laws.pool_link_is_lowest.Goals as goal
 
 pub returns-clause-says : goal.returns-clause-says

@@ -1,4 +1,4 @@
-use Rattle.class_file.proofs.RefusalLaws.{version_is, version_comes}
+use Rattle.class_file.proofs.MagicLaws.{version_is, version_comes}
 use Rattle.class_file.proofs.laws.version_is_told.Goals as goal
 
 pub returns-clause-says : goal.returns-clause-says
