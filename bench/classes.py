@@ -1,6 +1,9 @@
 """Class files, built from their parts."""
 import struct
 
+# the greatest length of a class file that the programs read
+LIMIT = 1_048_576
+
 
 def text(word):
     return b"\x01" + struct.pack(">H", len(word)) + word
@@ -21,3 +24,16 @@ def class_file(texts, fields=(), methods=()):
 def method(name, desc, code):
     contents = struct.pack(">HHI", 2, 2, len(code)) + code + bytes(4)
     return struct.pack(">HHHHHI", 9, name, desc, 1, 3, len(contents)) + contents
+
+
+def each_file(kinds, path):
+    """Writes the class files of these kinds and sizes there, one after the other, an empty file first.
+
+    Gives each file's kind and length; those of the empty file are None and 0."""
+    for name, make, sizes in ((None, lambda size: b"", (0,)), *kinds):
+        for size in sizes:
+            file = make(size)
+            assert len(file) <= LIMIT, (name, len(file))
+            with open(path, "wb") as out:
+                out.write(file)
+            yield name, len(file)

@@ -10,10 +10,9 @@ import os
 import struct
 import tempfile
 
-from classes import class_file, method
+from classes import class_file, each_file, method
 from program import CJVM, DECODE, least_time, need_programs
 
-LIMIT = 1_048_576
 RETURN = b"\xb1"
 
 
@@ -69,24 +68,21 @@ def main():
     need_programs(CJVM, DECODE)
     with tempfile.TemporaryDirectory() as folder:
         path = os.path.join(folder, "A.class")
-        with open(path, "wb") as out:
-            out.write(b"")
-        empty_read = least_time([CJVM, "run", path], 3)
-        empty_decode = least_time([DECODE, path], 0, None)
-        print(f"an empty file: {empty_read * 1000:.2f} ms, {empty_decode * 1000:.2f} ms")
-        for name, make, sizes in KINDS:
-            for size in sizes:
-                file = make(size)
-                assert len(file) <= LIMIT, (name, len(file))
-                with open(path, "wb") as out:
-                    out.write(file)
-                read = max(least_time([CJVM, "run", path], 14) - empty_read, 0)
-                both = max(least_time([DECODE, path], 0, None) - empty_decode, 0)
-                decode = max(both - read, 0) / len(file) * 1e9
-                print(
-                    f"{name:20} {len(file):8} bytes: read {read * 1000:6.2f} ms, and decoded "
-                    f"{both * 1000:6.2f} ms: decoding {decode:6.1f} ns a byte"
-                )
+        empty = (0, 0)
+        for name, length in each_file(KINDS, path):
+            read = least_time([CJVM, "run", path], 14 if name else 3)
+            both = least_time([DECODE, path], 0, None)
+            if name is None:
+                empty = (read, both)
+                print(f"an empty file: {read * 1000:.2f} ms, {both * 1000:.2f} ms")
+                continue
+            read = max(read - empty[0], 0)
+            both = max(both - empty[1], 0)
+            decode = max(both - read, 0) / length * 1e9
+            print(
+                f"{name:20} {length:8} bytes: read {read * 1000:6.2f} ms, and decoded "
+                f"{both * 1000:6.2f} ms: decoding {decode:6.1f} ns a byte"
+            )
 
 
 main()

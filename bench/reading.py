@@ -9,10 +9,8 @@ import os
 import struct
 import tempfile
 
-from classes import class_file, method
+from classes import class_file, each_file, method
 from program import CJVM, least_time, need_programs
-
-LIMIT = 1_048_576
 
 
 def ordinary(count):
@@ -52,19 +50,15 @@ def main():
     need_programs(CJVM)
     with tempfile.TemporaryDirectory() as folder:
         path = os.path.join(folder, "A.class")
-        with open(path, "wb") as out:
-            out.write(b"")
-        empty = least_time([CJVM, "run", path], 3)
-        print(f"an empty file: {empty * 1000:.2f} ms")
-        for name, make, sizes in KINDS:
-            for size in sizes:
-                file = make(size)
-                assert len(file) <= LIMIT, (name, len(file))
-                with open(path, "wb") as out:
-                    out.write(file)
-                took = least_time([CJVM, "run", path], 14)
-                net = max(took - empty, 0)
-                print(f"{name:25} {len(file):8} bytes: {took * 1000:7.2f} ms, {net / len(file) * 1e9:6.1f} ns a byte")
+        empty = 0
+        for name, length in each_file(KINDS, path):
+            took = least_time([CJVM, "run", path], 14 if name else 3)
+            if name is None:
+                empty = took
+                print(f"an empty file: {empty * 1000:.2f} ms")
+                continue
+            net = max(took - empty, 0) / length * 1e9
+            print(f"{name:25} {length:8} bytes: {took * 1000:7.2f} ms, {net:6.1f} ns a byte")
 
 
 main()

@@ -1,6 +1,6 @@
 -- What refusals of attributes and of codes say of the bytes, in the words of the spelling.
 use Rattle.std.specs.Prelude.{◌≡◌, ◌≢◌, ◌⊎◌, ◌<◌, ◌^◌, ℕ, List, ◌++◌, length, true, false, ◌&&◌, Option, Some, None}
-use Rattle.std.specs.List.{flat_map, AllByRecursion}
+use Rattle.std.specs.List.{AllByRecursion}
 use Rattle.jvm_base.specs.declared.code_item.CodeItem.{CodeItem}
 use Rattle.jvm_base.specs.declared.pool.PoolItem.{PoolItem}
 use Rattle.class_format.specs.declared.class.FieldItem.{FieldItem}
@@ -11,14 +11,22 @@ use Rattle.constant_pool.specs.Items.{is_text_that}
 use Rattle.class_format.specs.Meaning.{IsMember, IsCode, IsConstant, contents_of, keeps_constant, holds_code}
 use Rattle.constant_pool.specs.KnownTexts.{is_code, is_constant_value, is_constant_at}
 use Rattle.class_format.specs.Members.{is_among, field_keys, method_keys, code_count}
-use Rattle.class_file.specs.Refusals.{field_front_bytes, IsFieldFront, method_front_bytes, IsMethodFront}
+use Rattle.class_file.specs.Refusals.{field_front_bytes, IsFieldFront, method_front_bytes, IsMethodFront, begun, member_head}
 use Rattle.class_format.specs.Spelling.{Member, Source, number2, number4, attribute_bytes, member_bytes}
 
 -- ---- the front of an attribute
 
+-- what an attribute begins with
+abbrev pub attribute_head : (name len : ℕ) → List ℕ
+attribute_head name len = number2 name ++ number4 len
+
+-- what the contents of a Code begin with
+abbrev pub code_head : (max_stack max_locals code_len : ℕ) → List ℕ
+code_head max_stack max_locals code_len = number2 max_stack ++ number2 max_locals ++ number4 code_len
+
 -- a field or a method, told by the count of its attributes, as far as those that it has here
 abbrev pub begun_member_bytes : Member → ℕ → List ℕ
-begun_member_bytes m attribute_count = (number2 m.flags ++ number2 m.name ++ number2 m.desc) ++ (number2 attribute_count ++ flat_map attribute_bytes m.attributes)
+begun_member_bytes m attribute_count = member_head m.flags m.name m.desc ++ begun attribute_bytes attribute_count m.attributes
 
 -- what stands before an attribute of a field; the member has the attributes before it
 abbrev pub field_attribute_front : Source → ℕ → Member → ℕ → List ℕ
@@ -77,7 +85,7 @@ pub record HasSecondConstant (bytes : List ℕ) (n : ℕ) : Type 0 where
   pub rest : List ℕ
   pub front : IsFieldAttributeFront source fields count member attribute_count (Some constant)
   pub head : IsConstantHead source.pool member.flags name len
-  pub parts : bytes ≡ field_attribute_front source count member attribute_count ++ ((number2 name ++ number4 len) ++ rest)
+  pub parts : bytes ≡ field_attribute_front source count member attribute_count ++ (attribute_head name len ++ rest)
   pub place : n ≡ length (field_attribute_front source count member attribute_count ++ number2 name)
 
 -- n is the offset of the length of a constant, which isn't 2
@@ -96,7 +104,7 @@ pub record HasOtherConstantLength (bytes : List ℕ) (n : ℕ) : Type 0 where
   pub fits_value : value < 2 ^ 16
   pub typed : is_constant_at source.pool member.desc value ≡ true
   pub other : len ≢ 2
-  pub parts : bytes ≡ field_attribute_front source count member attribute_count ++ ((number2 name ++ number4 len) ++ (number2 value ++ rest))
+  pub parts : bytes ≡ field_attribute_front source count member attribute_count ++ (attribute_head name len ++ (number2 value ++ rest))
   pub place : n ≡ length (field_attribute_front source count member attribute_count ++ number2 name)
 
 -- n is the offset of the length of a Code whose contents are there and have another length
@@ -116,8 +124,12 @@ pub record HasOtherCodeLength (bytes : List ℕ) (n : ℕ) : Type 0 where
   pub head : IsCodeHead source.pool name len
   pub is : IsCode source.pool code contents
   pub other : len ≢ length contents
-  pub parts : bytes ≡ method_attribute_front source count member attribute_count ++ ((number2 name ++ number4 len) ++ (contents ++ rest))
+  pub parts : bytes ≡ method_attribute_front source count member attribute_count ++ (attribute_head name len ++ (contents ++ rest))
   pub place : n ≡ length (method_attribute_front source count member attribute_count ++ number2 name)
+
+-- n is the offset of one of these lengths
+abbrev pub HasOtherLength : List ℕ → ℕ → Type 0
+HasOtherLength bytes n = HasSecondConstant bytes n ⊎ (HasOtherConstantLength bytes n ⊎ HasOtherCodeLength bytes n)
 
 -- ---- codes
 
@@ -142,7 +154,7 @@ pub record HasBadCodeLength (bytes : List ℕ) (m : ℕ) : Type 0 where
   pub fits_locals : max_locals < 2 ^ 16
   pub fits_code_len : code_len < 2 ^ 32
   pub bad : (code_len ≡ 0) ⊎ (65535 < code_len)
-  pub parts : bytes ≡ method_attribute_front source count member attribute_count ++ ((number2 name ++ number4 len) ++ ((number2 max_stack ++ number2 max_locals ++ number4 code_len) ++ rest))
+  pub parts : bytes ≡ method_attribute_front source count member attribute_count ++ (attribute_head name len ++ (code_head max_stack max_locals code_len ++ rest))
 
 -- the method of number m is there whole, with another number of Codes than its flags allow
 pub record HasOtherCodeCount (bytes : List ℕ) (m : ℕ) : Type 0 where

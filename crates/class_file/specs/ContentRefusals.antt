@@ -1,17 +1,17 @@
 -- What refusals of attributes' names, and of numbers in attributes, say of the bytes, in the words of the spelling.
 use Rattle.std.specs.Prelude.{◌≡◌, ◌⊎◌, ◌<◌, ◌^◌, ℕ, List, [], ◌++◌, length, false, ◌||◌, nat_eq, Option, None}
-use Rattle.std.specs.List.{flat_map, AllByRecursion}
+use Rattle.std.specs.List.{AllByRecursion}
 use Rattle.jvm_base.specs.declared.code_item.TableItem.{TableItem}
 use Rattle.jvm_base.specs.declared.pool.PoolItem.{PoolItem}
 use Rattle.class_format.specs.declared.class.FieldItem.{FieldItem}
 use Rattle.class_format.specs.declared.class.MethodItem.{MethodItem}
-use Rattle.class_file.specs.AttributeRefusals.{field_attribute_front, IsFieldAttributeFront, method_attribute_front, IsMethodAttributeFront, IsConstantHead, IsCodeHead}
+use Rattle.class_file.specs.AttributeRefusals.{field_attribute_front, IsFieldAttributeFront, method_attribute_front, IsMethodAttributeFront, IsConstantHead, IsCodeHead, attribute_head, code_head}
 use Rattle.constant_pool.specs.Items.{is_text_at, is_class_at}
 use Rattle.class_file.specs.LinkRefusals.{HasBadClass, HasBadHead}
 use Rattle.class_format.specs.Meaning.{AreBytes, FitsAttribute, FitsEntry, IsField, IsMethod, Spelled, IsFront}
 use Rattle.constant_pool.specs.KnownTexts.{is_constant_at}
-use Rattle.class_file.specs.Refusals.{front_bytes}
-use Rattle.class_format.specs.Spelling.{Attribute, Member, Source, number2, number4, listed, attribute_bytes, member_bytes, table_bytes}
+use Rattle.class_file.specs.Refusals.{front_bytes, begun}
+use Rattle.class_format.specs.Spelling.{Attribute, Member, Source, number2, listed, attribute_bytes, member_bytes, table_bytes}
 
 -- ---- names of attributes
 
@@ -54,6 +54,10 @@ pub record HasBadMethodAttribute (bytes : List ℕ) (n : ℕ) : Type 0 where
 abbrev pub class_lists_bytes : Source → List ℕ
 class_lists_bytes s = (front_bytes s ++ listed member_bytes s.fields) ++ listed member_bytes s.methods
 
+-- what stands before one of them; these are the attributes before it
+abbrev pub class_attribute_front : Source → ℕ → List Attribute → List ℕ
+class_attribute_front s attribute_count attributes = class_lists_bytes s ++ begun attribute_bytes attribute_count attributes
+
 -- of the class
 pub record HasBadClassAttribute (bytes : List ℕ) (n : ℕ) : Type 0 where
   pub source : Source
@@ -72,8 +76,8 @@ pub record HasBadClassAttribute (bytes : List ℕ) (n : ℕ) : Type 0 where
   pub fits_count : attribute_count < 2 ^ 16
   pub more : length attributes < attribute_count
   pub bad : IsNoText source.pool name
-  pub parts : bytes ≡ (class_lists_bytes source ++ (number2 attribute_count ++ flat_map attribute_bytes attributes)) ++ (number2 name ++ rest)
-  pub place : n ≡ length (class_lists_bytes source ++ (number2 attribute_count ++ flat_map attribute_bytes attributes))
+  pub parts : bytes ≡ class_attribute_front source attribute_count attributes ++ (number2 name ++ rest)
+  pub place : n ≡ length (class_attribute_front source attribute_count attributes)
 
 -- ---- in attributes
 
@@ -92,8 +96,8 @@ pub record HasBadConstant (bytes : List ℕ) (n : ℕ) : Type 0 where
   pub head : IsConstantHead source.pool member.flags name len
   pub fits : value < 2 ^ 16
   pub no_constant : is_constant_at source.pool member.desc value ≡ false
-  pub parts : bytes ≡ (field_attribute_front source count member attribute_count ++ (number2 name ++ number4 len)) ++ (number2 value ++ rest)
-  pub place : n ≡ length (field_attribute_front source count member attribute_count ++ (number2 name ++ number4 len))
+  pub parts : bytes ≡ (field_attribute_front source count member attribute_count ++ attribute_head name len) ++ (number2 value ++ rest)
+  pub place : n ≡ length (field_attribute_front source count member attribute_count ++ attribute_head name len)
 
 -- a code as far as its exception table
 pub record BegunCode : Type 0 where
@@ -105,7 +109,7 @@ pub record BegunCode : Type 0 where
 
 -- its bytes
 abbrev pub begun_code_bytes : BegunCode → List ℕ
-begun_code_bytes c = (number2 c.name ++ number4 c.len) ++ ((number2 c.max_stack ++ number2 c.max_locals ++ number4 (length c.code)) ++ c.code)
+begun_code_bytes c = attribute_head c.name c.len ++ (code_head c.max_stack c.max_locals (length c.code) ++ c.code)
 
 -- what is asked of it
 pub record IsBegunCode (pool : List PoolItem) (c : BegunCode) : Type 0 where
@@ -124,6 +128,14 @@ code_front s count m attribute_count c = method_attribute_front s count m attrib
 pub record IsCodeFront (s : Source) (fields : List FieldItem) (methods : List MethodItem) (count : ℕ) (m : Member) (attribute_count : ℕ) (c : BegunCode) : Type 0 where
   pub front : IsMethodAttributeFront s fields methods count m attribute_count
   pub code : IsBegunCode s.pool c
+
+-- what stands before the class that an entry catches, behind what stands before the table
+abbrev pub caught_front : List ℕ → ℕ → List TableItem → (start end handler : ℕ) → List ℕ
+caught_front before entry_count entries start end handler = (before ++ begun table_bytes entry_count entries) ++ (number2 start ++ number2 end ++ number2 handler)
+
+-- what stands before an attribute of a code, likewise
+abbrev pub code_attribute_front : List ℕ → List TableItem → ℕ → List Attribute → List ℕ
+code_attribute_front before entries other_count attributes = (before ++ listed table_bytes entries) ++ begun attribute_bytes other_count attributes
 
 -- n is the offset of a number that is no class, where an exception table has the class that is caught
 pub record HasBadCaught (bytes : List ℕ) (n : ℕ) : Type 0 where
@@ -150,8 +162,8 @@ pub record HasBadCaught (bytes : List ℕ) (n : ℕ) : Type 0 where
   pub fits_handler : handler < 2 ^ 16
   pub fits : link < 2 ^ 16
   pub no_class : (nat_eq link 0 || is_class_at source.pool link) ≡ false
-  pub parts : bytes ≡ ((code_front source count member attribute_count code ++ (number2 entry_count ++ flat_map table_bytes entries)) ++ (number2 start ++ number2 end ++ number2 handler)) ++ (number2 link ++ rest)
-  pub place : n ≡ length ((code_front source count member attribute_count code ++ (number2 entry_count ++ flat_map table_bytes entries)) ++ (number2 start ++ number2 end ++ number2 handler))
+  pub parts : bytes ≡ caught_front (code_front source count member attribute_count code) entry_count entries start end handler ++ (number2 link ++ rest)
+  pub place : n ≡ length (caught_front (code_front source count member attribute_count code) entry_count entries start end handler)
 
 -- n is the offset of a name of an attribute of a code that is the index of no text
 pub record HasBadCodeAttribute (bytes : List ℕ) (n : ℕ) : Type 0 where
@@ -174,8 +186,8 @@ pub record HasBadCodeAttribute (bytes : List ℕ) (n : ℕ) : Type 0 where
   pub fits_count : other_count < 2 ^ 16
   pub more : length attributes < other_count
   pub bad : IsNoText source.pool name
-  pub parts : bytes ≡ ((code_front source count member attribute_count code ++ listed table_bytes entries) ++ (number2 other_count ++ flat_map attribute_bytes attributes)) ++ (number2 name ++ rest)
-  pub place : n ≡ length ((code_front source count member attribute_count code ++ listed table_bytes entries) ++ (number2 other_count ++ flat_map attribute_bytes attributes))
+  pub parts : bytes ≡ code_attribute_front (code_front source count member attribute_count code) entries other_count attributes ++ (number2 name ++ rest)
+  pub place : n ≡ length (code_attribute_front (code_front source count member attribute_count code) entries other_count attributes)
 
 -- ---- any of these
 

@@ -1,6 +1,6 @@
 -- What refusals of numbers that name classes, names and descriptors say of the bytes, in the words of the spelling.
 use Rattle.std.specs.Prelude.{◌≡◌, ◌⊎◌, ◌<◌, ◌^◌, ℕ, List, ◌++◌, length, true, false, ◌||◌, nat_eq}
-use Rattle.std.specs.List.{flat_map, AllByRecursion}
+use Rattle.std.specs.List.{AllByRecursion}
 use Rattle.jvm_base.specs.declared.pool.PoolItem.{PoolItem}
 use Rattle.class_format.specs.declared.class.FieldItem.{FieldItem}
 use Rattle.class_format.specs.declared.class.MethodItem.{MethodItem}
@@ -9,7 +9,7 @@ use Rattle.class_format.specs.Flags.{class_flags_clash}
 use Rattle.constant_pool.specs.Items.{is_class_at}
 use Rattle.class_format.specs.Meaning.{FitsLink}
 use Rattle.class_file.specs.MemberRefusals.{IsLinkedPool, IsBadHead}
-use Rattle.class_file.specs.Refusals.{pool_front_bytes, field_front_bytes, IsFieldFront, method_front_bytes, IsMethodFront}
+use Rattle.class_file.specs.Refusals.{pool_front_bytes, field_front_bytes, IsFieldFront, method_front_bytes, IsMethodFront, begun, member_head}
 use Rattle.class_format.specs.Spelling.{Source, number2}
 
 -- ---- classes that the class names
@@ -56,6 +56,10 @@ pub record HasBadSuper (bytes : List ℕ) (n : ℕ) : Type 0 where
   pub parts : bytes ≡ (class_front_bytes minor major count pool flags ++ number2 this_class) ++ (number2 link ++ rest)
   pub place : n ≡ length (class_front_bytes minor major count pool flags ++ number2 this_class)
 
+-- what stands before an interface, behind what stands before the class's own name
+abbrev pub interface_front : List ℕ → (this_class super_class interface_count : ℕ) → List ℕ → List ℕ
+interface_front before this_class super_class interface_count interfaces = before ++ number2 this_class ++ number2 super_class ++ begun number2 interface_count interfaces
+
 -- likewise an interface, behind those before it
 pub record HasBadInterface (bytes : List ℕ) (n : ℕ) : Type 0 where
   pub minor : ℕ
@@ -78,8 +82,8 @@ pub record HasBadInterface (bytes : List ℕ) (n : ℕ) : Type 0 where
   pub more : length interfaces < interface_count
   pub fits : link < 2 ^ 16
   pub no_class : is_class_at pool link ≡ false
-  pub parts : bytes ≡ (class_front_bytes minor major count pool flags ++ number2 this_class ++ number2 super_class ++ (number2 interface_count ++ flat_map number2 interfaces)) ++ (number2 link ++ rest)
-  pub place : n ≡ length (class_front_bytes minor major count pool flags ++ number2 this_class ++ number2 super_class ++ (number2 interface_count ++ flat_map number2 interfaces))
+  pub parts : bytes ≡ interface_front (class_front_bytes minor major count pool flags) this_class super_class interface_count interfaces ++ (number2 link ++ rest)
+  pub place : n ≡ length (interface_front (class_front_bytes minor major count pool flags) this_class super_class interface_count interfaces)
 
 -- n is the offset of one of them
 abbrev pub HasBadClass : List ℕ → ℕ → Type 0
@@ -99,7 +103,7 @@ pub record HasBadFieldHead (bytes : List ℕ) (n : ℕ) : Type 0 where
   pub rest : List ℕ
   pub front : IsFieldFront source fields count
   pub bad : IsBadHead kinds.Field source.pool flags name desc before
-  pub parts : bytes ≡ field_front_bytes source count ++ ((number2 flags ++ number2 name ++ number2 desc) ++ rest)
+  pub parts : bytes ≡ field_front_bytes source count ++ (member_head flags name desc ++ rest)
   pub place : n ≡ length (field_front_bytes source count ++ before)
 
 -- of a method likewise
@@ -115,7 +119,7 @@ pub record HasBadMethodHead (bytes : List ℕ) (n : ℕ) : Type 0 where
   pub rest : List ℕ
   pub front : IsMethodFront source fields methods count
   pub bad : IsBadHead kinds.Method source.pool flags name desc before
-  pub parts : bytes ≡ method_front_bytes source count ++ ((number2 flags ++ number2 name ++ number2 desc) ++ rest)
+  pub parts : bytes ≡ method_front_bytes source count ++ (member_head flags name desc ++ rest)
   pub place : n ≡ length (method_front_bytes source count ++ before)
 
 -- n is the offset of one of them

@@ -12,7 +12,7 @@ use Rattle.constant_pool.specs.Links.{bad_link}
 use Rattle.class_format.specs.Meaning.{IsPool}
 use Rattle.constant_pool.specs.KnownTexts.{is_named}
 use Rattle.class_format.specs.Members.{is_without_receiver, is_desc_of, flags_clash}
-use Rattle.class_file.specs.Refusals.{pool_front_bytes, field_front_bytes, IsFieldFront, method_front_bytes, IsMethodFront}
+use Rattle.class_file.specs.Refusals.{pool_front_bytes, field_front_bytes, IsFieldFront, method_front_bytes, IsMethodFront, member_head}
 use Rattle.class_format.specs.Spelling.{Source, number2}
 
 -- ---- names and descriptors
@@ -47,7 +47,7 @@ pub record HasClashingField (bytes : List ℕ) (n : ℕ) : Type 0 where
   pub rest : List ℕ
   pub front : IsFieldFront source fields count
   pub clash : IsClash kinds.Field source.pool flags name desc
-  pub parts : bytes ≡ field_front_bytes source count ++ ((number2 flags ++ number2 name ++ number2 desc) ++ rest)
+  pub parts : bytes ≡ field_front_bytes source count ++ (member_head flags name desc ++ rest)
   pub place : n ≡ length (field_front_bytes source count)
 
 -- of a method likewise
@@ -62,7 +62,7 @@ pub record HasClashingMethod (bytes : List ℕ) (n : ℕ) : Type 0 where
   pub rest : List ℕ
   pub front : IsMethodFront source fields methods count
   pub clash : IsClash kinds.Method source.pool flags name desc
-  pub parts : bytes ≡ method_front_bytes source count ++ ((number2 flags ++ number2 name ++ number2 desc) ++ rest)
+  pub parts : bytes ≡ method_front_bytes source count ++ (member_head flags name desc ++ rest)
   pub place : n ≡ length (method_front_bytes source count)
 
 -- a linked pool behind a version. A count of 0 is taken like 1
@@ -88,3 +88,7 @@ pub record HasClashingClass (bytes : List ℕ) (n : ℕ) : Type 0 where
   pub clash : class_flags_clash flags ≡ true
   pub parts : bytes ≡ pool_front_bytes minor major count pool ++ (number2 flags ++ rest)
   pub place : n ≡ length (pool_front_bytes minor major count pool)
+
+-- n is the offset of one of them
+abbrev pub HasClashingFlags : List ℕ → ℕ → Type 0
+HasClashingFlags bytes n = HasClashingClass bytes n ⊎ (HasClashingField bytes n ⊎ HasClashingMethod bytes n)

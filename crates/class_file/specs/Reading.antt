@@ -16,13 +16,17 @@ abbrev pub Gives : {X Y : Type 0} → (X → Y) → Result X ClassErr → Result
 Gives view (Ok x) read = read ≡ Ok (view x)
 Gives view (Err e) read = Fails e read
 
+-- the place after so many bytes
+abbrev pub after : ℕ → Place → Place
+after n p = record { total = p.total; rest = drop n p.rest }
+
 -- so many bytes, and the place after them
 abbrev pub bytes_at : ℕ → Place → Result (List ℕ × Place) ClassErr
-bytes_at n p = if nat_lt (length p.rest) n then Err (Cut p.total) else Ok (take n p.rest, record { total = p.total; rest = drop n p.rest })
+bytes_at n p = if nat_lt (length p.rest) n then Err (Cut p.total) else Ok (take n p.rest, after n p)
 
 -- a number of a width, its most significant byte first (JVMS2 4)
 abbrev pub number_at : Width → Place → Result (ℕ × Place) ClassErr
-number_at w p = if nat_lt (length p.rest) (byte_len w) then Err (Cut p.total) else Ok (from_be_bytes w (take (byte_len w) p.rest), record { total = p.total; rest = drop (byte_len w) p.rest })
+number_at w p = if nat_lt (length p.rest) (byte_len w) then Err (Cut p.total) else Ok (from_be_bytes w (take (byte_len w) p.rest), after (byte_len w) p)
 
 -- one part after the other, so many of them, each with what the earlier ones came to
 unfoldable pub each_at : {S : Type 0} → (S → Place → Result (S × Place) ClassErr) → ℕ → S → Place → Result (S × Place) ClassErr

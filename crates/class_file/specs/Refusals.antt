@@ -41,11 +41,21 @@ pub record HasOtherVersion (bytes : List ℕ) (n : ℕ) (m : ℕ) : Type 0 where
   pub fits_major : n < 2 ^ 16
   pub other : is_other_version n m ≡ true
 
+-- ---- parts that are there in front
+
+-- a count of two bytes, and the parts that are there of so many
+abbrev pub begun : {X : Type 0} → (X → List ℕ) → ℕ → List X → List ℕ
+begun bytes count xs = number2 count ++ flat_map bytes xs
+
+-- what a field or a method begins with
+abbrev pub member_head : (flags name desc : ℕ) → List ℕ
+member_head flags name desc = number2 flags ++ number2 name ++ number2 desc
+
 -- ---- the pool
 
 -- what stands before an item of the pool of a class file: the version, the count, and the items before it
 abbrev pub pool_front_bytes : (minor major count : ℕ) → List PoolItem → List ℕ
-pool_front_bytes minor major count items = (number4 3405691582 ++ number2 minor ++ number2 major) ++ (number2 count ++ flat_map item_bytes items)
+pool_front_bytes minor major count items = (number4 3405691582 ++ number2 minor ++ number2 major) ++ (begun item_bytes count items)
 
 -- what a class file asks of it, where the count tells of more items
 pub record IsPoolFront (minor major count : ℕ) (items : List PoolItem) : Type 0 where
@@ -118,7 +128,7 @@ front_bytes s =
 
 -- a list of fields or methods, told by its count, as far as these members
 abbrev pub begun_bytes : ℕ → List Member → List ℕ
-begun_bytes count members = number2 count ++ flat_map member_bytes members
+begun_bytes count members = begun member_bytes count members
 
 -- the items are what the members spell, and the count tells of more
 pub record IsBegun {X : Type 0} (Is : List X → Member → X → Type 0) (count : ℕ) (members : List Member) (items : List X) : Type 0 where
@@ -154,7 +164,7 @@ pub record IsTwin (kind : MemberKind) (pool : List PoolItem) (earlier : List (�
   pub name : ℕ
   pub desc : ℕ
   pub rest : List ℕ
-  pub parts : bytes ≡ before ++ ((number2 flags ++ number2 name ++ number2 desc) ++ rest)
+  pub parts : bytes ≡ before ++ (member_head flags name desc ++ rest)
   pub member : IsMember kind pool (record { flags = flags; name = name; desc = desc; attributes = [] })
   pub among : is_among pool earlier name desc ≡ true
 
@@ -176,3 +186,7 @@ pub record HasTwiceMethod (bytes : List ℕ) (n : ℕ) : Type 0 where
   pub front : IsMethodFront source fields methods count
   pub twin : IsTwin kinds.Method source.pool (method_keys methods) (method_front_bytes source count) bytes
   pub place : n ≡ length (method_front_bytes source count)
+
+-- n is the offset of one of them
+abbrev pub HasTwice : List ℕ → ℕ → Type 0
+HasTwice bytes n = HasTwiceField bytes n ⊎ HasTwiceMethod bytes n

@@ -1,13 +1,13 @@
 -- Which bytes are refused, and how, in the words of the spelling alone.
-use Rattle.std.specs.Prelude.{◌≡◌, ◌⊎◌, ℕ, List, length}
+use Rattle.std.specs.Prelude.{◌≡◌, ℕ, List, length}
 use Rattle.class_format.specs.declared.class.ClassFile.{ClassFile}
 use Rattle.class_format.specs.Meaning.{Spells}
 use Rattle.class_file.specs.declared.error.ClassErr.{ClassErr}
 use Rattle.class_file.specs.declared.error.ClassErr.TheVariants.{Magic, Version, Cut, PoolTag, PoolText, PoolLink, ItemLink, Flags, AttrLength, CodeLength, CodeCount, Twice, Extra, NoMemory}
-use Rattle.class_file.specs.AttributeRefusals.{HasSecondConstant, HasOtherConstantLength, HasOtherCodeLength, HasBadCodeLength, HasOtherCodeCount}
+use Rattle.class_file.specs.AttributeRefusals.{HasOtherLength, HasBadCodeLength, HasOtherCodeCount}
 use Rattle.class_file.specs.ContentRefusals.{HasBadNumber}
-use Rattle.class_file.specs.MemberRefusals.{HasClashingClass, HasClashingField, HasClashingMethod}
-use Rattle.class_file.specs.Refusals.{HasExtra, HasOtherMagic, HasOtherVersion, HasBadTag, HasBadText, HasBadLink, HasTwiceField, HasTwiceMethod}
+use Rattle.class_file.specs.MemberRefusals.{HasClashingFlags}
+use Rattle.class_file.specs.Refusals.{HasExtra, HasOtherMagic, HasOtherVersion, HasBadTag, HasBadText, HasBadLink, HasTwice}
 
 -- what is there of the bytes is refused so, whatever follows
 abbrev pub IsTold : List ℕ → ClassErr → Type 0
@@ -17,11 +17,11 @@ IsTold bytes (PoolTag i) = HasBadTag bytes i
 IsTold bytes (PoolText i) = HasBadText bytes i
 IsTold bytes (PoolLink i) = HasBadLink bytes i
 IsTold bytes (ItemLink n) = HasBadNumber bytes n
-IsTold bytes (Flags n) = HasClashingClass bytes n ⊎ (HasClashingField bytes n ⊎ HasClashingMethod bytes n)
-IsTold bytes (AttrLength n) = HasSecondConstant bytes n ⊎ (HasOtherConstantLength bytes n ⊎ HasOtherCodeLength bytes n)
+IsTold bytes (Flags n) = HasClashingFlags bytes n
+IsTold bytes (AttrLength n) = HasOtherLength bytes n
 IsTold bytes (CodeLength m) = HasBadCodeLength bytes m
 IsTold bytes (CodeCount m) = HasOtherCodeCount bytes m
-IsTold bytes (Twice n) = HasTwiceField bytes n ⊎ HasTwiceMethod bytes n
+IsTold bytes (Twice n) = HasTwice bytes n
 IsTold bytes (Extra n) = HasExtra bytes n
 IsTold bytes (Cut n) = ⊥
 IsTold bytes NoMemory = ⊥

@@ -14,7 +14,7 @@ use crate::field::fields;
 use crate::method::methods;
 use crate::pool_reader::pool;
 use crate::reader::Reader;
-use class_format::{ClassFile, FieldItem, MethodItem, class_flags_clash, is_other_version};
+use class_format::{ClassFile, FieldItem, MAGIC, MethodItem, class_flags_clash, is_other_version};
 use constant_pool::{TextFacts, Texts, bad_link};
 use jvm_base::{List, Pool, PoolItem};
 use std::alloc::Global;
@@ -41,7 +41,7 @@ fn version(reader: &mut Reader) -> Result<(u16, u16), ClassErr>
     ensures { Gives (λ v. ((v.0, v.1), reader.new)) result (version_at reader.old) }
 {
     let magic = reader.u4()?;
-    if magic != 0xCAFE_BABE {
+    if magic != MAGIC {
         return Err(ClassErr::Magic);
     }
     let minor = reader.u2()?;

@@ -5,12 +5,12 @@ ghost use Rattle.class_format.specs.declared.class.ClassFile.{ClassFile as Class
 ghost use Rattle.class_file.specs.declared.error.ClassErr.TheVariants.{Magic, Cut, Extra, Version, PoolTag, PoolText, PoolLink, ItemLink, Flags, AttrLength, CodeLength, CodeCount, Twice};
 ghost use Rattle.class_file.specs.ClassReading.{class_at};
 ghost use Rattle.class_format.specs.Meaning.{AreBytes, IsClass, Spells, spelling};
-ghost use Rattle.class_file.specs.AttributeRefusals.{HasSecondConstant, HasOtherConstantLength, HasOtherCodeLength, HasBadCodeLength, HasOtherCodeCount};
+ghost use Rattle.class_file.specs.AttributeRefusals.{HasOtherLength, HasBadCodeLength, HasOtherCodeCount};
 ghost use Rattle.class_file.specs.ContentRefusals.{HasBadNumber};
-ghost use Rattle.class_file.specs.MemberRefusals.{HasClashingClass, HasClashingField, HasClashingMethod};
+ghost use Rattle.class_file.specs.MemberRefusals.{HasClashingFlags};
 ghost use Rattle.class_file.specs.declared.error.ClassErr.{ClassErr as Refusal};
 ghost use Rattle.class_file.specs.Refused.{IsRefused};
-ghost use Rattle.class_file.specs.Refusals.{HasExtra, HasOtherMagic, HasOtherVersion, HasBadTag, HasBadText, HasBadLink, HasTwiceField, HasTwiceMethod};
+ghost use Rattle.class_file.specs.Refusals.{HasExtra, HasOtherMagic, HasOtherVersion, HasBadTag, HasBadText, HasBadLink, HasTwice};
 
 /// No bytes spell two class files. What some bytes spell has a spelling without what is skipped.
 pub fn spellings_tell_apart()
@@ -73,16 +73,16 @@ pub fn item_link_is_bad()
 /// Flags comes exactly at flags of the class, of a field or of a method that contradict each other,
 /// where nothing before them is refused, nor the member's name or descriptor. It names their offset.
 pub fn flags_clash_there()
-    ensures says { (bytes : List ℕ) (n : ℕ) → AreBytes bytes → class_at bytes ≡ Err (Flags n) → HasClashingClass bytes n ⊎ (HasClashingField bytes n ⊎ HasClashingMethod bytes n) }
-    ensures comes { (bytes : List ℕ) (n : ℕ) → HasClashingClass bytes n ⊎ (HasClashingField bytes n ⊎ HasClashingMethod bytes n) → class_at bytes ≡ Err (Flags n) }
+    ensures says { (bytes : List ℕ) (n : ℕ) → AreBytes bytes → class_at bytes ≡ Err (Flags n) → HasClashingFlags bytes n }
+    ensures comes { (bytes : List ℕ) (n : ℕ) → HasClashingFlags bytes n → class_at bytes ≡ Err (Flags n) }
 {}
 
 /// AttrLength comes exactly at the length of a static field's second constant, of a constant that
 /// isn't 2 bytes long, or of a Code whose contents have another length, where nothing before it is
 /// refused, nor the contents. It names the length's offset.
 pub fn attribute_length_is_other()
-    ensures says { (bytes : List ℕ) (n : ℕ) → AreBytes bytes → class_at bytes ≡ Err (AttrLength n) → HasSecondConstant bytes n ⊎ (HasOtherConstantLength bytes n ⊎ HasOtherCodeLength bytes n) }
-    ensures comes { (bytes : List ℕ) (n : ℕ) → HasSecondConstant bytes n ⊎ (HasOtherConstantLength bytes n ⊎ HasOtherCodeLength bytes n) → class_at bytes ≡ Err (AttrLength n) }
+    ensures says { (bytes : List ℕ) (n : ℕ) → AreBytes bytes → class_at bytes ≡ Err (AttrLength n) → HasOtherLength bytes n }
+    ensures comes { (bytes : List ℕ) (n : ℕ) → HasOtherLength bytes n → class_at bytes ≡ Err (AttrLength n) }
 {}
 
 /// CodeLength comes exactly at a Code attribute that tells of no code, or of more than 65,535 bytes
@@ -102,8 +102,8 @@ pub fn code_count_is_other()
 /// Twice comes exactly at the second of two fields, or of two methods, of one name and one
 /// descriptor, where nothing before it is refused, and names its offset.
 pub fn twice_is_repeated()
-    ensures says { (bytes : List ℕ) (n : ℕ) → AreBytes bytes → class_at bytes ≡ Err (Twice n) → HasTwiceField bytes n ⊎ HasTwiceMethod bytes n }
-    ensures comes { (bytes : List ℕ) (n : ℕ) → HasTwiceField bytes n ⊎ HasTwiceMethod bytes n → class_at bytes ≡ Err (Twice n) }
+    ensures says { (bytes : List ℕ) (n : ℕ) → AreBytes bytes → class_at bytes ≡ Err (Twice n) → HasTwice bytes n }
+    ensures comes { (bytes : List ℕ) (n : ℕ) → HasTwice bytes n → class_at bytes ≡ Err (Twice n) }
 {}
 
 /// A refusal comes exactly where it is due, which the words of the spelling alone say: each but Cut by

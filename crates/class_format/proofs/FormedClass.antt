@@ -14,12 +14,12 @@ use Rattle.class_format.specs.declared.class.MethodItem.{MethodItem}
 use Rattle.class_format.specs.declared.member_kind.MemberKind.{MemberKind}
 use Rattle.class_format.specs.declared.member_kind.MemberKind.TheVariants as kinds
 use Rattle.class_format.specs.Flags.{is_static}
-use Rattle.constant_pool.specs.Items.{text_at, is_text_that}
+use Rattle.constant_pool.specs.Items.{text_at, is_text_that, is_item_that}
 use Rattle.constant_pool.specs.KnownTexts.{is_named, is_code, is_constant_value, is_constant_at}
-use Rattle.class_format.specs.Members.{is_without_receiver, is_desc_of, flags_clash, is_among, field_keys, method_keys}
+use Rattle.class_format.specs.Members.{is_without_receiver, is_desc_of, flags_clash, is_among, field_keys, method_keys, field_key, method_key}
 use Rattle.class_format.specs.Spelling.{Attribute, Member, number2, code_bytes}
 use Rattle.class_format.specs.Meaning.{IsPool, FitsLink, FitsEntry, AreAttributes, contents_of, keeps_constant, holds_code, IsConstant, IsCode, HasCode, IsMember, IsField, IsMethod, Spelled, lowest_that, constant_attributes, code_attributes, plain_field, plain_method, IsClass}
-use Rattle.class_format.specs.Formed.{is_item_that, has_text_that, FormedPool, FitsHead, head_passes, constant_passes, FitsConstant, FormedField, FormedCodeOf, FormedMethod, field_key, method_key, AreNew, FormedHead, FormedMembers, FormedParts}
+use Rattle.class_format.specs.Formed.{has_text_that, FormedPool, FitsHead, head_passes, constant_passes, FitsConstant, FormedField, FormedCodeOf, FormedMethod, AreNew, FormedHead, FormedMembers, FormedParts}
 use Rattle.class_format.proofs.Lengths.{code-length}
 
 -- ---- lists and tests

@@ -6,35 +6,43 @@ use Rattle.std.specs.Prelude.{ℕ, Bool, not, ◌&&◌, ◌||◌, ◌==◌, bit_
 abbrev pub has_flag : ℕ → ℕ → Bool
 has_flag flags bit = not (bit_and flags bit == 0)
 
+-- ACC_PUBLIC, of a class, field or method
 abbrev pub is_public : ℕ → Bool
 is_public flags = has_flag flags 1
 
+-- ACC_PRIVATE, of a field or method
 abbrev pub is_private : ℕ → Bool
 is_private flags = has_flag flags 2
 
+-- ACC_PROTECTED, of a field or method
 abbrev pub is_protected : ℕ → Bool
 is_protected flags = has_flag flags 4
 
+-- ACC_STATIC, of a field or method
 abbrev pub is_static : ℕ → Bool
 is_static flags = has_flag flags 8
 
+-- ACC_FINAL, of a class, field or method
 abbrev pub is_final : ℕ → Bool
 is_final flags = has_flag flags 16
 
--- of a method; of a class the same bit says how it calls its superclass
+-- ACC_SYNCHRONIZED, of a method; of a class the same bit is ACC_SUPER
 abbrev pub is_synchronized : ℕ → Bool
 is_synchronized flags = has_flag flags 32
 
--- of a field
+-- ACC_VOLATILE, of a field
 abbrev pub is_volatile : ℕ → Bool
 is_volatile flags = has_flag flags 64
 
+-- ACC_NATIVE, of a method
 abbrev pub is_native : ℕ → Bool
 is_native flags = has_flag flags 256
 
+-- ACC_INTERFACE, of a class
 abbrev pub is_interface : ℕ → Bool
 is_interface flags = has_flag flags 512
 
+-- ACC_ABSTRACT, of a class or method
 abbrev pub is_abstract : ℕ → Bool
 is_abstract flags = has_flag flags 1024
 

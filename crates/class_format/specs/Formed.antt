@@ -1,7 +1,6 @@
 -- What is asked of a class file one part after the other, so that some bytes spell it.
 use Rattle.std.specs.Prelude.{◌≡◌, ◌↔◌, [], ◌∷◌, ◌++◌, ◌<◌, ◌^◌, ℕ, List, length, map, Bool, true, false, not, ◌&&◌, ◌||◌, nat_eq, Option, Some, None, All}
 use Rattle.std.specs.List.{list_any}
-use Rattle.std.specs.Option.{option_map_or}
 use Rattle.jvm_base.specs.declared.code_item.CodeItem.{CodeItem}
 use Rattle.jvm_base.specs.declared.pool.PoolItem.{PoolItem}
 use Rattle.class_format.specs.declared.class.ClassFile.{ClassFile}
@@ -11,21 +10,17 @@ use Rattle.class_format.specs.declared.member_kind.MemberKind.{MemberKind}
 use Rattle.class_format.specs.declared.member_kind.MemberKind.TheVariants as kinds
 use Rattle.class_format.specs.Versions.{is_other_version}
 use Rattle.class_format.specs.Flags.{is_static, class_flags_clash}
-use Rattle.constant_pool.specs.Items.{text_of, is_text_that, is_class_at}
+use Rattle.constant_pool.specs.Items.{is_text_that, is_class_at, is_item_that}
 use Rattle.constant_pool.specs.Links.{bad_link}
 use Rattle.constant_pool.specs.KnownTexts.{is_named, is_code, is_constant_value, is_constant_at}
-use Rattle.class_format.specs.Members.{is_without_receiver, is_desc_of, flags_clash, is_among, code_count}
+use Rattle.class_format.specs.Members.{is_without_receiver, is_desc_of, flags_clash, is_among, code_count, field_key, method_key}
 use Rattle.class_format.specs.Meaning.{FitsEntry, FitsLink, AreItems, IsPool, AreBytes}
-
--- the item is a text that passes
-abbrev pub is_item_that : (List ℕ → Bool) → PoolItem → Bool
-is_item_that test item = option_map_or test (text_of item) false
 
 -- there is a text that passes
 abbrev pub has_text_that : (List ℕ → Bool) → List PoolItem → Bool
 has_text_that test pool = list_any (is_item_that test) pool
 
--- its items fit and are linked
+-- its items fit, and so does their count
 pub record FormedPool (pool : List PoolItem) : Type 0 where
   pub items : IsPool pool
   pub count : length pool < 2 ^ 16
@@ -88,14 +83,6 @@ pub record FormedMethod (pool : List PoolItem) (m : MethodItem) : Type 0 where
   pub code : FormedCodeOf pool m.flags m.code
 
 -- ---- no two alike
-
--- the indices of a field's name and descriptor
-abbrev pub field_key : FieldItem → ℕ × ℕ
-field_key f = (f.name, f.desc)
-
--- the same of a method
-abbrev pub method_key : MethodItem → ℕ × ℕ
-method_key m = (m.name, m.desc)
 
 -- none is like an earlier one
 abbrev pub AreNew : {X : Type 0} → List PoolItem → (X → ℕ × ℕ) → (earlier : List X) → List X → Type 0

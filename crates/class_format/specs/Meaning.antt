@@ -2,7 +2,6 @@
 use Rattle.std.specs.Prelude.{◌≡◌, ◌<◌, ◌^◌, ℕ, List, [], ◌∷◌, ◌++◌, length, map, Bool, true, false, ◌&&◌, ◌||◌, nat_eq, Option, Some, None, FitsSigned}
 use Rattle.std.specs.Int.{w32, w64}
 use Rattle.std.specs.List.{AllByRecursion, filter, position_or_len}
-use Rattle.std.specs.Option.{option_map_or}
 use Rattle.std.proofs.Common.{get_or}
 use Rattle.jvm_base.specs.declared.code_item.CodeItem.{CodeItem}
 use Rattle.jvm_base.specs.declared.code_item.TableItem.{TableItem}
@@ -17,7 +16,7 @@ use Rattle.class_format.specs.declared.member_kind.MemberKind.{MemberKind}
 use Rattle.class_format.specs.declared.member_kind.MemberKind.TheVariants as kinds
 use Rattle.class_format.specs.Versions.{is_other_version}
 use Rattle.class_format.specs.Flags.{is_static, class_flags_clash}
-use Rattle.constant_pool.specs.Items.{is_text_at, is_text_that, is_class_at, text_of}
+use Rattle.constant_pool.specs.Items.{is_text_at, is_text_that, is_class_at, is_item_that}
 use Rattle.constant_pool.specs.Links.{bad_link}
 use Rattle.constant_pool.specs.KnownTexts.{is_named, is_code, is_constant_value, is_constant_at}
 use Rattle.class_format.specs.Members.{is_without_receiver, is_desc_of, flags_clash, is_among, field_keys, method_keys, code_count}
@@ -196,7 +195,7 @@ pub record Spells (c : ClassFile) (bytes : List ℕ) : Type 0 where
 
 -- the lowest index of a text that passes
 abbrev pub lowest_that : (List ℕ → Bool) → List PoolItem → ℕ
-lowest_that test pool = position_or_len (λ item. option_map_or test (text_of item) false) pool
+lowest_that test pool = position_or_len (is_item_that test) pool
 
 -- a ConstantValue, where there is a constant
 abbrev pub constant_attributes : List PoolItem → Option ℕ → List Attribute

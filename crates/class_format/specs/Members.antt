@@ -32,13 +32,21 @@ flags_clash Method without_receiver flags = method_flags_clash without_receiver 
 abbrev pub is_among : List PoolItem → List (ℕ × ℕ) → ℕ → ℕ → Bool
 is_among pool keys name desc = list_any (λ k. is_same_text (text_at pool k.0) (text_at pool name) && is_same_text (text_at pool k.1) (text_at pool desc)) keys
 
--- names and descriptors of fields, as indices
-abbrev pub field_keys : List FieldItem → List (ℕ × ℕ)
-field_keys fields = map (λ f. (f.name, f.desc)) fields
+-- the indices of a field's name and descriptor
+abbrev pub field_key : FieldItem → ℕ × ℕ
+field_key f = (f.name, f.desc)
 
--- the same of methods
+-- the same of a method
+abbrev pub method_key : MethodItem → ℕ × ℕ
+method_key m = (m.name, m.desc)
+
+-- of fields
+abbrev pub field_keys : List FieldItem → List (ℕ × ℕ)
+field_keys fields = map field_key fields
+
+-- of methods
 abbrev pub method_keys : List MethodItem → List (ℕ × ℕ)
-method_keys methods = map (λ m. (m.name, m.desc)) methods
+method_keys methods = map method_key methods
 
 -- how many Code attributes a method has
 abbrev pub code_count : ℕ → ℕ

@@ -4,11 +4,11 @@ ghost use Rattle.std.specs.Prelude.{◌≡◌, ◌&&◌, ◌↔◌, ◌<◌, ◌
 ghost use Rattle.std.specs.List.{list_any};
 ghost use Rattle.class_format.specs.Versions.{is_other_version};
 ghost use Rattle.class_format.specs.Flags.{class_flags_clash};
-ghost use Rattle.constant_pool.specs.Items.{text_of, is_text_that, is_class_at};
-ghost use Rattle.constant_pool.specs.KnownTexts.{is_code, is_constant_value};
+ghost use Rattle.constant_pool.specs.Items.{text_of, is_text_that, is_class_at, is_item_that};
+ghost use Rattle.constant_pool.specs.KnownTexts.{is_the_text, is_code, is_constant_value};
 ghost use Rattle.constant_pool.specs.Links.{bad_link};
 ghost use Rattle.class_format.specs.Meaning.{FitsLink, IsClass, lowest_that};
-ghost use Rattle.class_format.specs.Formed.{is_item_that, has_text_that, FormedHead, FormedMembers, FormedParts};
+ghost use Rattle.class_format.specs.Formed.{has_text_that, FormedHead, FormedMembers, FormedParts};
 
 use crate::class::{COUNT_LIMIT, ClassFile, FieldItem, MethodItem};
 use crate::flags::class_flags_clash;
@@ -17,38 +17,14 @@ use crate::formed_pool::is_formed_pool;
 use crate::members::are_new;
 use crate::version::is_other_version;
 use constant_pool::{
-    TextKind, Texts, bad_link, fill_kinds, fill_ranks, is_code, is_constant_value,
+    CODE, CONSTANT_VALUE, TextKind, Texts, bad_link, fill_kinds, fill_ranks, is_text,
 };
 use jvm_base::PoolItem;
 
-fn is_constant_value_item(item: &PoolItem) -> bool
-    ensures { result ≡ is_item_that is_constant_value item.now }
+fn has_text(pool: &[PoolItem], text: &[u16]) -> bool
+    ensures { result ≡ has_text_that (is_the_text text.now) pool.now }
 {
-    match item {
-        PoolItem::Utf8(text) => is_constant_value(text.as_slice()),
-        _ => false,
-    }
-}
-
-fn is_code_item(item: &PoolItem) -> bool
-    ensures { result ≡ is_item_that is_code item.now }
-{
-    match item {
-        PoolItem::Utf8(text) => is_code(text.as_slice()),
-        _ => false,
-    }
-}
-
-fn has_constant_value(pool: &[PoolItem]) -> bool
-    ensures { result ≡ list_any (is_item_that is_constant_value) pool.now }
-{
-    pool.iter().any(|item| is_constant_value_item(item))
-}
-
-fn has_code(pool: &[PoolItem]) -> bool
-    ensures { result ≡ list_any (is_item_that is_code) pool.now }
-{
-    pool.iter().any(|item| is_code_item(item))
+    pool.iter().any(|item| is_text(item, text))
 }
 
 fn attribute_names(pool: &[PoolItem]) -> AttributeNames
@@ -56,8 +32,8 @@ fn attribute_names(pool: &[PoolItem]) -> AttributeNames
     ensures code { result.code ≡ has_text_that is_code pool.now }
 {
     AttributeNames {
-        constant_value: has_constant_value(pool),
-        code: has_code(pool),
+        constant_value: has_text(pool, &CONSTANT_VALUE),
+        code: has_text(pool, &CODE),
     }
 }
 

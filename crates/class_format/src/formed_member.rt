@@ -9,7 +9,7 @@ ghost use Rattle.class_format.specs.Members.{is_without_receiver, is_desc_of, fl
 ghost use Rattle.class_format.specs.Meaning.{FitsEntry, AreBytes, lowest_that};
 ghost use Rattle.class_format.specs.Formed.{has_text_that, head_passes, constant_passes, FitsHead, FitsConstant, FormedField, FormedCode, FormedCodeOf, FormedMethod};
 
-use crate::class::{FieldItem, MethodItem};
+use crate::class::{COUNT_LIMIT, FieldItem, MethodItem};
 use crate::flags::{STATIC, has_flag};
 use crate::member_kind::{MemberKind, code_count, flags_clash, is_desc_of, is_without_receiver};
 use constant_pool::Texts;
@@ -112,7 +112,10 @@ fn is_formed_code(texts: &Texts, names: AttributeNames, code: &CodeItem) -> bool
     let _max_stack = code.max_stack;
     let _max_locals = code.max_locals;
     let table = code.table.as_slice();
-    names.code && is_short(code.code.as_slice()) && table.len() < 65536 && are_entries(texts, table)
+    names.code
+        && is_short(code.code.as_slice())
+        && table.len() < COUNT_LIMIT
+        && are_entries(texts, table)
 }
 
 fn is_formed_code_of(

@@ -14,4 +14,4 @@ pub use class::{ClassFile, FieldItem, MethodItem};
 pub use flags::{STATIC, class_flags_clash, has_flag};
 pub use formed::well_formed;
 pub use member_kind::{MemberKind, code_count, flags_clash, is_desc_of, is_without_receiver};
-pub use version::is_other_version;
+pub use version::{MAGIC, is_other_version};

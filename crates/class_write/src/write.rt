@@ -1,8 +1,7 @@
 //! The whole file (JVMS2 4.1).
 
 ghost use Rattle.std.specs.Prelude.{◌≡◌, ◌++◌, ◌<◌, ◌^◌, length, position, All, IfOk, IfSome, OnOk, false};
-ghost use Rattle.std.specs.Option.{option_map_or};
-ghost use Rattle.constant_pool.specs.Items.{text_of};
+ghost use Rattle.constant_pool.specs.Items.{is_item_that};
 ghost use Rattle.constant_pool.specs.KnownTexts.{is_the_text};
 ghost use Rattle.class_file.specs.ClassReading.{class_at};
 ghost use Rattle.class_format.specs.Spelling.{number2, listed, item_bytes};
@@ -13,31 +12,15 @@ ghost use Rattle.class_write.specs.Written.{FitsWritten, FitsCode, IsWritable};
 use crate::item::push_item;
 use crate::member::{push_field, push_method};
 use crate::number::{push_u2, push_u4};
-use class_format::{ClassFile, FieldItem, MethodItem};
+use class_format::{ClassFile, FieldItem, MAGIC, MethodItem};
+use constant_pool::{CODE, CONSTANT_VALUE, is_text};
 use jvm_base::{List, NoMemory, Pool, PoolItem};
 use std::alloc::Global;
-
-const MAGIC: u32 = 0xCAFE_BABE;
-
-/// `Code`
-const CODE: [u16; 4] = [67, 111, 100, 101];
-
-/// `ConstantValue`
-const CONSTANT_VALUE: [u16; 13] = [67, 111, 110, 115, 116, 97, 110, 116, 86, 97, 108, 117, 101];
-
-fn is_text(item: &PoolItem, text: &[u16]) -> bool
-    ensures { result ≡ option_map_or (is_the_text text.now) (text_of item.now) false }
-{
-    match item {
-        PoolItem::Utf8(units) => units.as_slice() == text,
-        _ => false,
-    }
-}
 
 /// The lowest index of the text.
 fn text_place(pool: &[PoolItem], text: &[u16]) -> Option<usize>
     ensures within { IfSome result (λ i. i < length pool.now) }
-    ensures value { result ≡ position (λ item. option_map_or (is_the_text text.now) (text_of item) false) pool.now }
+    ensures value { result ≡ position (is_item_that (is_the_text text.now)) pool.now }
 {
     pool.iter().position(|item| is_text(item, text))
 }

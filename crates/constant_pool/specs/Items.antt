@@ -20,6 +20,10 @@ text_at pool i = option_and_then text_of (slice_get pool i)
 abbrev pub is_text_that : (List ℕ → Bool) → List PoolItem → ℕ → Bool
 is_text_that test pool i = option_map_or test (text_at pool i) false
 
+-- the item is a text that passes
+abbrev pub is_item_that : (List ℕ → Bool) → PoolItem → Bool
+is_item_that test item = option_map_or test (text_of item) false
+
 -- the item at an index is a text
 abbrev pub is_text_at : List PoolItem → ℕ → Bool
 is_text_at pool i = is_some (text_at pool i)

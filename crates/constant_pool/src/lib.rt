@@ -8,7 +8,7 @@ mod ranks;
 mod text_facts;
 mod texts;
 
-pub use known_texts::{is_code, is_constant_value};
+pub use known_texts::{CODE, CONSTANT_VALUE, is_text};
 pub use links::bad_link;
 pub use lookup::{pair_desc, text_at};
 pub use ranks::fill_ranks;

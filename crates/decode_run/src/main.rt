@@ -3,37 +3,12 @@
 //! `cjvm` doesn't do yet.
 #![tactic(auto)]
 
+mod counts;
+
+use crate::counts::{Counts, Refused, count_all};
 use class_file::{ClassFile, read_class};
-use code_table::decode_code;
-use std::alloc::Global;
 use std::process::ExitCode;
 use std::{env, fs, io};
-
-/// What was decoded of a file.
-#[derive(Drop)]
-struct Decoded {
-    methods: usize,
-    instructions: usize,
-}
-
-/// Decodes the code of each method, or answers the first one that is refused.
-fn decode_all(alloc: Global, class: &ClassFile) -> Result<Decoded, usize> {
-    let mut decoded = Decoded {
-        methods: 0,
-        instructions: 0,
-    };
-    for (place, method) in class.methods.as_slice().iter().enumerate() {
-        let Some(item) = &method.code else {
-            continue;
-        };
-        let Ok(code) = decode_code(alloc, item, &class.pool) else {
-            return Err(place);
-        };
-        decoded.methods = decoded.methods.saturating_add(1);
-        decoded.instructions = decoded.instructions.saturating_add(code.ops.len());
-    }
-    Ok(decoded)
-}
 
 /// Prints a line for a file.
 fn show(rt: &HostRuntime, name: &str) -> io::Result<()> {
@@ -45,10 +20,10 @@ fn show(rt: &HostRuntime, name: &str) -> io::Result<()> {
 }
 
 fn show_code(rt: &HostRuntime, name: &str, class: &ClassFile) -> io::Result<()> {
-    match decode_all(rt.alloc(), class) {
-        Err(place) => println!(rt; "{name}: method {place} refused"),
+    match count_all(rt.alloc(), class) {
+        Err(Refused { method, why }) => println!(rt; "{name}: method {method} refused, {why:?}"),
         Ok(
-            Decoded {
+            Counts {
                 methods,
                 instructions,
             },
