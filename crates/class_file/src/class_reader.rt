@@ -20,7 +20,7 @@ use jvm_base::{List, Pool, PoolItem};
 use std::alloc::Global;
 
 /// Flags of a class, and the classes that it names: itself, its superclass and its interfaces.
-#[derive(Debug, Drop)]
+#[derive(Drop)]
 struct Names {
     flags: u16,
     this_class: u16,
@@ -29,7 +29,7 @@ struct Names {
 }
 
 /// What follows the pool, but for the attributes.
-#[derive(Debug, Drop)]
+#[derive(Drop)]
 struct Members {
     names: Names,
     fields: List<FieldItem>,

@@ -7,7 +7,7 @@ pub(crate) const COUNT_LIMIT: usize = 65536;
 
 /// A field of a class (JVMS2 4.5): its flags, the pool indices of its name and descriptor and, of a
 /// static one, that of its constant.
-#[derive(Debug, Drop)]
+#[derive(Drop)]
 pub struct FieldItem {
     pub flags: u16,
     pub name: u16,
@@ -17,7 +17,7 @@ pub struct FieldItem {
 
 /// A method of a class (JVMS2 4.6): its flags, the pool indices of its name and descriptor and its
 /// code, which is there exactly where it is neither native nor abstract.
-#[derive(Debug, Drop)]
+#[derive(Drop)]
 pub struct MethodItem {
     pub flags: u16,
     pub name: u16,
@@ -26,7 +26,7 @@ pub struct MethodItem {
 }
 
 /// A class file (JVMS2 4.1) without the attributes that are skipped.
-#[derive(Debug, Drop)]
+#[derive(Drop)]
 pub struct ClassFile {
     pub minor: u16,
     pub major: u16,

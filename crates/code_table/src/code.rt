@@ -4,7 +4,7 @@ use crate::op::Op;
 use jvm_base::{List, TableItem};
 
 /// An instruction in its place: its own address, and that of the byte behind it.
-#[derive(Debug, Drop)]
+#[derive(Drop)]
 pub struct Placed {
     pub at: u32,
     pub next: u32,
@@ -13,7 +13,7 @@ pub struct Placed {
 
 /// Decoded code: its instructions by rising address, which cover its bytes, and its exception table
 /// as the class file has it.
-#[derive(Debug, Drop)]
+#[derive(Drop)]
 pub struct Code {
     pub max_stack: u32,
     pub max_locals: u32,

@@ -7,7 +7,7 @@ use jvm_base::{Desc, List, MethodDesc};
 /// `dims` counts dimensions. A `u16` is an index of the pool or, as `local`, of a local variable.
 /// `to` and `other` are addresses, where `other` is the default's. A member's descriptor stands
 /// beside its index, so that no pool is needed to know the operands.
-#[derive(Debug, Drop)]
+#[derive(Drop)]
 pub enum Op {
     Nop,
     AconstNull,

@@ -10,3 +10,4 @@ pub mod TextLoop
 pub mod Texts
 pub mod UnitParts
 pub mod Refusing
+pub mod Telling

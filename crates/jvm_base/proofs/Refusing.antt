@@ -32,6 +32,16 @@ pub want_ok : {A B E : Type 0} (o : Option A) (d : E) (f : A → Result B E) (y 
 want_ok (Some x) d f y e = (x, refl, e)
 want_ok None d f y e = absurd cc
 
+-- a value that is there
+pub want_is : {A E : Type 0} (o : Option A) (d : E) (x : A) → want o d ≡ Ok x → o ≡ Some x
+want_is (Some y) d x h = let e : y ≡ x = cc in ap Some e
+want_is None d x h = absurd cc
+
+-- a value that is not there
+pub want_err : {A E : Type 0} (o : Option A) (d e : E) → want o d ≡ Err e → (o ≡ None) × (e ≡ d)
+want_err (Some y) d e h = absurd cc
+want_err None d e h = (refl, let g : e ≡ d = cc in g)
+
 -- ---- steps that go on
 
 pub bind_then : {A B E : Type 0} (r : Result A E) (x : A) (f : A → Result B E) (y : Result B E) → r ≡ Ok x → f x ≡ y → (r >>= f) ≡ y

@@ -7,6 +7,7 @@ pub mod Refusing
 pub mod SeenDescs
 pub mod Stack
 pub mod Text
+pub mod Told
 pub mod Tops
 pub mod Units
 pub mod Words

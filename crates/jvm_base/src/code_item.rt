@@ -12,7 +12,7 @@ pub struct TableItem {
 }
 
 /// A Code attribute without its attributes.
-#[derive(Debug, Drop)]
+#[derive(Drop)]
 pub struct CodeItem {
     pub max_stack: u16,
     pub max_locals: u16,

@@ -3,7 +3,9 @@
 ghost use Rattle.std.specs.Prelude.{◌≡◌, ◌≢◌, ◌==◌, ◌&&◌, not, position, List as Items, ℕ, Some, is_some, option_map, IfOk, IfErr};
 ghost use Rattle.std.specs.List.{list_all};
 ghost use Rattle.std.specs.Option.{option_copied};
-ghost use Rattle.jvm_base.specs.Reads.{Reads, Refuses};
+ghost use Rattle.jvm_base.specs.Reads.{Reads, told};
+ghost use Rattle.jvm_base.specs.Told.{Tells, Gives, itself};
+ghost use Rattle.jvm_base.specs.Refusing.{want};
 ghost use Rattle.jvm_base.specs.Descriptors.{is_class_name, name_at, elem_at, desc_at, desc_of, args_of, is_void, return_of, method_of, is_method_of, elem_slots, desc_slots, desc_text, method_text, IsDesc, IsMethodDesc};
 ghost use Rattle.jvm_base.specs.SeenDescs.{seen_elem, seen_desc, within, after_args_of, IsFirstOf, ReadsFirst};
 
@@ -313,7 +315,7 @@ impl Desc {
     pub fn read_field(alloc: Global, text: &Units) -> Result<Desc, NameErr>
         ensures found { IfOk result (λ d. IsDesc d × (text.now ≡ desc_text d)) }
         ensures only { (d : Desc) → IsDesc d → text.now ≡ desc_text d → Reads NameErr.BadDesc result (Some d) }
-        ensures refused { IfErr result (Refuses NameErr.BadDesc ((d : Desc) → IsDesc d → text.now ≢ desc_text d)) }
+        ensures refused { IfErr result (Tells told (λ e. (e ≡ NameErr.BadDesc) × ((d : Desc) → IsDesc d → text.now ≢ desc_text d))) }
         ensures exact { Reads NameErr.BadDesc result (desc_of text.now) }
     {
         read_desc(alloc, text.as_slice())
@@ -348,7 +350,7 @@ impl MethodDesc {
     pub fn read_method(alloc: Global, text: &Units) -> Result<MethodDesc, NameErr>
         ensures found { IfOk result (λ m. IsMethodDesc m × (text.now ≡ method_text m)) }
         ensures only { (m : MethodDesc) → IsMethodDesc m → text.now ≡ method_text m → Reads NameErr.BadDesc result (Some m) }
-        ensures refused { IfErr result (Refuses NameErr.BadDesc ((m : MethodDesc) → IsMethodDesc m → text.now ≢ method_text m)) }
+        ensures refused { IfErr result (Tells told (λ e. (e ≡ NameErr.BadDesc) × ((m : MethodDesc) → IsMethodDesc m → text.now ≢ method_text m))) }
         ensures exact { Reads NameErr.BadDesc result (method_of text.now) }
     {
         read_method(alloc, text.as_slice())
@@ -381,38 +383,3 @@ pub fn method_has_one_spelling()
     ensures written { (m : MethodDesc) → IsMethodDesc m → method_of (method_text m) ≡ Some m }
     ensures read { (us : Items ℕ) (m : MethodDesc) → method_of us ≡ Some m → IsMethodDesc m × (us ≡ method_text m) }
 {}
-
-#[cfg(test)]
-mod tests {
-    use super::*;
-    use std::test::Fail;
-
-    #[test]
-    fn reads(rt: HostRuntime) -> Result<(), Fail> {
-        let table: [(&[u8], bool, bool); 9] = [
-            (b"I", true, false),
-            (b"[[J", true, false),
-            (b"Ljava/lang/Object;", true, false),
-            (b"(IDLjava/lang/Thread;)Ljava/lang/Object;", false, true),
-            (b"([[J)V", false, true),
-            (b"V", false, false),
-            (b"L;", false, false),
-            (b"La[b;", false, false),
-            (b"(I)", false, false),
-        ];
-        for (bytes, is_field, is_method) in table {
-            let text = Units::read(rt.alloc(), bytes)?;
-            assert_eq!(rt; Desc::is_field(&text), is_field);
-            assert_eq!(rt; Desc::read_field(rt.alloc(), &text).is_ok(), is_field);
-            assert_eq!(rt; MethodDesc::is_method(&text, 255), is_method);
-            assert_eq!(rt;
-                MethodDesc::read_method(rt.alloc(), &text).is_ok(),
-                is_method
-            );
-        }
-        let wide = Units::read(rt.alloc(), b"(IDLjava/lang/Thread;)Ljava/lang/Object;")?;
-        assert!(rt; MethodDesc::is_method(&wide, 4));
-        assert!(rt; !MethodDesc::is_method(&wide, 3));
-        Ok(())
-    }
-}

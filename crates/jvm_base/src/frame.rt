@@ -24,7 +24,7 @@ pub enum Phase {
 /// A call that is going on (JVMS2 3.6). `lock` is what `Phase::Lock` enters, and never changes; it
 /// is there exactly for a synchronized method. A long takes its local and the next one, which holds
 /// `Int(0)`.
-#[derive(Debug, Drop)]
+#[derive(Drop)]
 pub struct Frame {
     pub method: u32,
     pub at: u32,
@@ -35,14 +35,14 @@ pub struct Frame {
 }
 
 /// A call, or a class that its thread initialises; `begun` says that its initialiser was called.
-#[derive(Debug, Drop)]
+#[derive(Drop)]
 pub enum Level {
     Code(Frame),
     Init { class: u32, begun: bool },
 }
 
 /// The levels of a thread. Contracts see them with the top one first.
-#[derive(Debug, Drop)]
+#[derive(Drop)]
 pub struct Levels {
     items: Vec<Level>,
 }

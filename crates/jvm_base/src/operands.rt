@@ -9,7 +9,7 @@ use std::marker::Model;
 
 /// Operands of a frame (JVMS2 3.6.2). Contracts see the values with the newest first, and the
 /// number of values that it was made for, which it never exceeds.
-#[derive(Debug, Drop)]
+#[derive(Drop)]
 pub struct Operands {
     items: Vec<Value>,
     room: u32,

@@ -11,7 +11,7 @@ use std::marker::Model;
 
 /// An item of the constant pool (JVMS2 4.4). `Gap` stands at index 0 and at the second index of a
 /// `Long` or `Double`; a `Float` and a `Double` are kept as their bits.
-#[derive(Debug, Drop)]
+#[derive(Drop)]
 pub enum PoolItem {
     Gap,
     Utf8(Units),
@@ -28,7 +28,7 @@ pub enum PoolItem {
 }
 
 /// A constant pool, seen as the list of its items. Item 0 is `Gap`.
-#[derive(Debug, Drop)]
+#[derive(Drop)]
 pub struct Pool {
     list: List<PoolItem>,
 }

@@ -1,7 +1,9 @@
 //! Modified UTF-8 (JVMS2 4.4.7).
 
 ghost use Rattle.std.specs.Prelude.{◌≡◌, ◌≢◌, ◌++◌, List, ℕ, Some, length, min, option_map, IfOk, IfErr, OnOk};
-ghost use Rattle.jvm_base.specs.Reads.{Reads, Refuses};
+ghost use Rattle.jvm_base.specs.Reads.{Reads, told};
+ghost use Rattle.jvm_base.specs.Told.{Tells, Gives, itself};
+ghost use Rattle.jvm_base.specs.Refusing.{want};
 ghost use Rattle.jvm_base.specs.Text.{is_one, is_two, is_three, unit_at, units_of, unit_bytes, text_bytes};
 ghost use Rattle.jvm_base.specs.Units.{AreUnits};
 
@@ -96,7 +98,7 @@ impl Units {
     pub fn read(alloc: Global, bytes: &[u8]) -> Result<Units, NameErr>
         ensures found { IfOk result (λ us. AreUnits us × (bytes.now ≡ text_bytes us)) }
         ensures only { (us : List ℕ) → AreUnits us → bytes.now ≡ text_bytes us → Reads NameErr.BadUtf result (Some us) }
-        ensures refused { IfErr result (Refuses NameErr.BadUtf ((us : List ℕ) → AreUnits us → bytes.now ≢ text_bytes us)) }
+        ensures refused { IfErr result (Tells told (λ e. (e ≡ NameErr.BadUtf) × ((us : List ℕ) → AreUnits us → bytes.now ≢ text_bytes us))) }
         ensures exact { Reads NameErr.BadUtf result (units_of bytes.now) }
     {
         read_units(alloc, bytes)
@@ -131,37 +133,3 @@ pub fn text_has_one_spelling()
     ensures written { (us : List ℕ) → AreUnits us → units_of (text_bytes us) ≡ Some us }
     ensures read { (bytes us : List ℕ) → units_of bytes ≡ Some us → AreUnits us × (bytes ≡ text_bytes us) }
 {}
-
-#[cfg(test)]
-mod tests {
-    use super::*;
-    use std::test::Fail;
-
-    #[test]
-    fn reads_and_writes(rt: HostRuntime) -> Result<(), Fail> {
-        let table: [(&[u8], &[u16]); 4] = [
-            (&[0x41, 0x7F], &[0x41, 0x7F]),
-            (&[0xC0, 0x80, 0xC3, 0xA9], &[0, 0xE9]),
-            (&[0xE2, 0x82, 0xAC], &[0x20AC]),
-            (&[0xED, 0xA0, 0x80, 0xED, 0xBF, 0xBF], &[0xD800, 0xDFFF]),
-        ];
-        for (bytes, units) in table {
-            let text = Units::read(rt.alloc(), bytes)?;
-            assert_eq!(rt; text.as_slice(), units);
-            assert_eq!(rt; text.byte_len(), bytes.len());
-            let written = text.write(rt.alloc())?;
-            assert_eq!(rt; written.as_slice(), bytes);
-        }
-        let bad: [&[u8]; 5] = [
-            &[0],
-            &[0xC1, 0x81],
-            &[0xE0, 0x80, 0x80],
-            &[0xC3],
-            &[0xF0, 0x90, 0x80, 0x80],
-        ];
-        for bytes in bad {
-            assert!(rt; matches!(Units::read(rt.alloc(), bytes), Err(NameErr::BadUtf)));
-        }
-        Ok(())
-    }
-}

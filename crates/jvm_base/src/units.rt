@@ -1,13 +1,19 @@
 //! Texts of 16-bit units.
 
-ghost use Rattle.std.specs.Prelude.{◌≡◌, [], ◌∷◌, ◌++◌, length, slice_get, OnOk, OnErr, IfOk};
+ghost use Rattle.std.specs.Prelude.{◌≡◌, [], ◌∷◌, ◌++◌, length, slice_get, nat_eq, OnOk, OnErr, IfOk};
 ghost use Rattle.std.specs.Option.{option_copied};
+ghost use Rattle.std.specs.Cmp.Lexicographic.{pointwise};
+ghost use Rattle.std.specs.Cmp.Rules.{comparing, hashing};
+ghost use Rattle.std.specs.Hash as fed;
+ghost use Rattle.std.proofs.Common.{rules};
 ghost use Rattle.jvm_base.specs.declared.units.NameErr.TheVariants.{NoMemory as OutOfMemory};
 
 use crate::list::List;
 use crate::memory::NoMemory;
 use std::alloc::Global;
+use std::hash::{Hash, Hasher};
 use std::marker::Model;
+use thiserror::Error;
 
 /// A text as Java has it: 16-bit units, surrogates each by themselves. Contracts see the list of
 /// the units.
@@ -17,10 +23,16 @@ pub struct Units {
 }
 
 /// Why a text or a descriptor isn't read.
-#[derive(Clone, Copy, Debug, PartialEq, Eq)]
+#[derive(Clone, Copy, Debug, PartialEq, Eq, Error)]
 pub enum NameErr {
+    /// The bytes are no modified UTF-8 (JVMS2 4.4.7).
+    #[error("bad text")]
     BadUtf,
+    /// The text is no descriptor of the kind that is read (JVMS2 4.3).
+    #[error("bad descriptor")]
     BadDesc,
+    /// Memory ran out.
+    #[error("want of memory")]
     NoMemory,
 }
 
@@ -38,6 +50,30 @@ impl Model for Units {
     ghost Value = { List ℕ };
 
     ghost view = { λ a. a.list };
+}
+
+impl PartialEq for Units {
+    ghost eq = { λ a b. pointwise nat_eq a b };
+
+    ghost laws = { Prim.search (comparing, rules) };
+
+    fn eq(&self, other: &Units) -> bool {
+        self.as_slice() == other.as_slice()
+    }
+}
+
+impl Eq for Units {
+    ghost laws = { Prim.search (comparing, rules) };
+}
+
+impl Hash for Units {
+    ghost hash_input = { λ a. fed.slice fed.u16 a };
+
+    ghost respects_eq = { Prim.search (hashing, rules) };
+
+    fn hash<H: Hasher>(&self, state: &mut H) {
+        self.as_slice().hash(state);
+    }
 }
 
 impl Units {

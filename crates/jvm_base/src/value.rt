@@ -16,7 +16,7 @@ pub enum Value {
 
 /// What an object holds: the fields of an instance or of a class's statics, the elements of an
 /// array, or the text of a String or StringBuffer.
-#[derive(Debug, Drop)]
+#[derive(Drop)]
 pub enum ObjectBody {
     Fields(List<Value>),
     Array(List<Value>),

@@ -26,7 +26,7 @@ use thin_file::ThinCode;
 
 /// The state of the one machine. No step of a thin program changes the heap, enters a lock or waits,
 /// so these parts are not stored.
-#[derive(Debug, Drop)]
+#[derive(Drop)]
 pub struct Machine {
     alloc: Global,
     threads: List<ThreadState>,

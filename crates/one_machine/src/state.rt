@@ -38,7 +38,7 @@ pub struct Waiter {
 }
 
 /// A thread: its Thread object, mode, levels, and how many steps it took.
-#[derive(Debug, Drop)]
+#[derive(Drop)]
 pub struct ThreadState {
     pub object: Name,
     pub mode: Mode,

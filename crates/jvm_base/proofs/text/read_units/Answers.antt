@@ -10,7 +10,7 @@ pub loop-rest-preserved : goal.loop-rest-preserved
 loop-rest-preserved c = rw c.in_ok-push-in-Some.ensures.ok (goes_on c.loop-rest.units c.loop-rest.rest.now c.in-Some.after.now c.in-Some.unit (units_of c.args.bytes.now) (grind arith) c.in-Some.ensures c.loop-rest.invariant)
 
 pub returns-in-None : goal.returns-in-None
-returns-in-None c = (refl, stops c.loop-rest.units c.loop-rest.rest.now (units_of c.args.bytes.now) (grind arith) c.in-None.ensures c.loop-rest.invariant)
+returns-in-None c = rw (stops c.loop-rest.units c.loop-rest.rest.now (units_of c.args.bytes.now) (grind arith) c.in-None.ensures c.loop-rest.invariant) refl
 
 pub returns : goal.returns
-returns c = is_done c.loop-rest.units c.loop-rest.rest.now (units_of c.args.bytes.now) (grind arith) c.loop-rest.invariant
+returns c = rw (is_done c.loop-rest.units c.loop-rest.rest.now (units_of c.args.bytes.now) (grind arith) c.loop-rest.invariant) refl
