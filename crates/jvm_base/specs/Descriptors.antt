@@ -2,6 +2,7 @@
 use Rattle.std.specs.Prelude.{ℕ, ◌<◌, ◌≤◌, List, [], ◌∷◌, ◌++◌, length, take, drop, replicate, position, sum_by, Bool, false, not, ◌&&◌, ◌==◌, nat_lt, nat_le, IsTrue, if◌then◌else◌, Option, Some, None, option_map, option_and_then, suc, zero}
 use Rattle.std.specs.Option.{option_map_or}
 use Rattle.std.specs.List.{flat_map, list_all, AllByRecursion}
+use Rattle.jvm_base.specs.Letters.{byte_letter, char_letter, double_letter, float_letter, int_letter, long_letter, class_letter, short_letter, boolean_letter, void_letter, array_letter, class_end, args_begin, args_end}
 use Rattle.jvm_base.specs.declared.desc.Elem.{Elem}
 use Rattle.jvm_base.specs.declared.desc.Elem.TheVariants.{Byte, Char, Double, Float, Int, Long, Short, Boolean, Object}
 use Rattle.jvm_base.specs.declared.desc.Desc.{Desc}
@@ -11,19 +12,19 @@ use Rattle.jvm_base.specs.declared.desc.MethodDesc.{MethodDesc}
 
 -- the text of an element type: one letter, or a class name between `L` and `;`
 abbrev pub elem_text : Elem → List ℕ
-elem_text Byte = 66 ∷ []
-elem_text Char = 67 ∷ []
-elem_text Double = 68 ∷ []
-elem_text Float = 70 ∷ []
-elem_text Int = 73 ∷ []
-elem_text Long = 74 ∷ []
-elem_text Short = 83 ∷ []
-elem_text Boolean = 90 ∷ []
-elem_text (Object name) = 76 ∷ name ++ 59 ∷ []
+elem_text Byte = byte_letter ∷ []
+elem_text Char = char_letter ∷ []
+elem_text Double = double_letter ∷ []
+elem_text Float = float_letter ∷ []
+elem_text Int = int_letter ∷ []
+elem_text Long = long_letter ∷ []
+elem_text Short = short_letter ∷ []
+elem_text Boolean = boolean_letter ∷ []
+elem_text (Object name) = class_letter ∷ name ++ class_end ∷ []
 
 -- a `[` for each dimension, and the element type
 abbrev pub desc_text : Desc → List ℕ
-desc_text d = replicate d.dims 91 ++ elem_text d.elem
+desc_text d = replicate d.dims array_letter ++ elem_text d.elem
 
 -- descriptors one behind the other
 abbrev pub args_text : List Desc → List ℕ
@@ -31,12 +32,12 @@ args_text ds = flat_map desc_text ds
 
 -- the type of a result, or `V`
 abbrev pub return_text : Option Desc → List ℕ
-return_text None = 86 ∷ []
+return_text None = void_letter ∷ []
 return_text (Some d) = desc_text d
 
 -- parameters in brackets, and the result
 abbrev pub method_text : MethodDesc → List ℕ
-method_text m = 40 ∷ args_text m.args ++ 41 ∷ return_text m.ret
+method_text m = args_begin ∷ args_text m.args ++ args_end ∷ return_text m.ret
 
 -- ---- slots
 
@@ -58,7 +59,7 @@ args_slots ds = sum_by desc_slots ds
 
 -- a class's name in a descriptor isn't empty, and has no `;` and no `[`
 abbrev pub is_class_name : List ℕ → Bool
-is_class_name us = nat_lt 0 (length us) && list_all (λ u. not (u == 59) && not (u == 91)) us
+is_class_name us = nat_lt 0 (length us) && list_all (λ u. not (u == class_end) && not (u == array_letter)) us
 
 -- a class name that can stand in a descriptor
 abbrev pub IsElem : Elem → Type 0
@@ -86,32 +87,32 @@ pub record IsMethodDesc (m : MethodDesc) : Type 0 where
 -- the element type of one letter
 abbrev pub letter_elem : ℕ → Option Elem
 letter_elem u =
-    if u == 66 then Some Byte
-    else (if u == 67 then Some Char
-    else (if u == 68 then Some Double
-    else (if u == 70 then Some Float
-    else (if u == 73 then Some Int
-    else (if u == 74 then Some Long
-    else (if u == 83 then Some Short
-    else (if u == 90 then Some Boolean
+    if u == byte_letter then Some Byte
+    else (if u == char_letter then Some Char
+    else (if u == double_letter then Some Double
+    else (if u == float_letter then Some Float
+    else (if u == int_letter then Some Int
+    else (if u == long_letter then Some Long
+    else (if u == short_letter then Some Short
+    else (if u == boolean_letter then Some Boolean
     else None)))))))
 
 -- a class's name up to the first `;`, and what follows that
 abbrev pub name_at : List ℕ → Option (Elem × List ℕ)
 name_at us = option_and_then
     (λ i. if is_class_name (take i us) then Some (Object (take i us), drop (suc i) us) else None)
-    (position (λ u. u == 59) us)
+    (position (λ u. u == class_end) us)
 
 -- an element type at the front, and what follows it
 unfoldable pub elem_at : List ℕ → Option (Elem × List ℕ)
 elem_at [] = None
-elem_at (u ∷ us) = if u == 76 then name_at us else option_map (λ e. (e, us)) (letter_elem u)
+elem_at (u ∷ us) = if u == class_letter then name_at us else option_map (λ e. (e, us)) (letter_elem u)
 
 -- a descriptor of a field at the front, and what follows it
 unfoldable pub desc_at : List ℕ → Option (Desc × List ℕ)
 desc_at us = option_and_then
     (λ n. if nat_lt n 256 then option_map (λ x. (record { dims = n; elem = x.0 }, x.1)) (elem_at (drop n us)) else None)
-    (position (λ u. not (u == 91)) us)
+    (position (λ u. not (u == array_letter)) us)
 
 -- what was read, where nothing follows it
 abbrev pub whole : {X : Type 0} → X × List ℕ → Option X
@@ -126,7 +127,7 @@ unfoldable pub args_at : (most : ℕ) → List ℕ → Option (List Desc × List
 args_at zero us = None
 args_at (suc most) [] = None
 args_at (suc most) (u ∷ us) =
-    if u == 41 then Some ([], us)
+    if u == args_end then Some ([], us)
     else option_and_then (λ x. option_map (λ y. (x.0 ∷ y.0, y.1)) (args_at most x.1)) (desc_at (u ∷ us))
 
 -- all parameters at the front, and what follows them
@@ -136,7 +137,7 @@ args_of us = args_at (length us) us
 -- a text that is `V`
 abbrev pub is_void : List ℕ → Bool
 is_void [] = false
-is_void (u ∷ us) = u == 86 && (length us == 0)
+is_void (u ∷ us) = u == void_letter && (length us == 0)
 
 -- the result that a text is
 abbrev pub return_of : List ℕ → Option (Option Desc)
@@ -150,7 +151,7 @@ method_if args ret = if nat_le (args_slots args) 255 then Some (record { args = 
 unfoldable pub method_of : List ℕ → Option MethodDesc
 method_of [] = None
 method_of (u ∷ us) =
-    if u == 40 then option_and_then (λ x. option_and_then (method_if x.0) (return_of x.1)) (args_of us)
+    if u == args_begin then option_and_then (λ x. option_and_then (method_if x.0) (return_of x.1)) (args_of us)
     else None
 
 -- whether a text is the descriptor of a method whose parameters take at most so many slots

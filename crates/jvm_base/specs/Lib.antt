@@ -1,5 +1,6 @@
 pub mod Descriptors
 pub mod Lends
+pub mod Letters
 pub mod Maps
 pub mod Names
 pub mod Reads

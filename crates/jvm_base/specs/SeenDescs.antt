@@ -1,8 +1,10 @@
 -- Descriptors that still lie in a text.
-use Rattle.std.specs.Prelude.{◌≡◌, ◌==◌, ◌<◌, [], ◌∷◌, ◌++◌, length, option_map, Result, Ok, Err, ℕ, List, nat_le, if◌then◌else◌, Option, Some, None, option_and_then}
+use Rattle.std.specs.Prelude.{◌≡◌, ◌==◌, ◌<◌, [], ◌∷◌, ◌++◌, length, option_map, Result, ℕ, List, nat_le, if◌then◌else◌, Option, Some, None, option_and_then}
 use Rattle.std.specs.Borrow.{Bor}
 use Rattle.jvm_base.specs.declared.units.NameErr.{NameErr}
-use Rattle.jvm_base.specs.declared.units.NameErr.TheVariants.{NoMemory}
+use Rattle.jvm_base.specs.Reads.{told}
+use Rattle.jvm_base.specs.Refusing.{want}
+use Rattle.jvm_base.specs.Told.{Gives}
 use Rattle.jvm_base.specs.declared.desc.Elem.{Elem}
 use Rattle.jvm_base.specs.declared.desc.Elem.TheVariants as elem
 use Rattle.jvm_base.specs.declared.desc.Desc.{Desc}
@@ -12,6 +14,7 @@ use Rattle.jvm_base.specs.declared.desc_text.SeenDesc.{SeenDesc}
 use Rattle.jvm_base.specs.declared.desc_text.SeenArg.{SeenArg}
 use Rattle.jvm_base.specs.declared.desc_text.SeenArg.TheVariants.{End, Next}
 use Rattle.jvm_base.specs.Descriptors.{args_slots, args_of}
+use Rattle.jvm_base.specs.Letters.{args_end}
 
 -- the element type that a reader saw
 abbrev pub seen_elem : SeenElem → Elem
@@ -33,11 +36,13 @@ seen_desc d = record { dims = d.dims; elem = seen_elem d.elem }
 abbrev pub within : ℕ → Option (List Desc × List ℕ) → Option (List Desc × List ℕ)
 within most read = option_and_then (λ x. if nat_le (args_slots x.0) most then Some x else None) read
 
--- what was read from the front, and what follows it
+-- what was read from the front, and what follows it, seen as lists
+abbrev pub seen_rest : {X : Type 0} → X × Bor (List ℕ) → X × List ℕ
+seen_rest x = (x.0, x.1.now)
+
+-- what was read from the front, and what follows it, unless memory ran out
 abbrev pub ReadsFirst : {X : Type 0} → NameErr → Result (X × Bor (List ℕ)) NameErr → Option (X × List ℕ) → Type 0
-ReadsFirst refusal (Ok x) read = read ≡ Some (x.0, x.1.now)
-ReadsFirst refusal (Err NoMemory) read = Unit {0}
-ReadsFirst refusal (Err e) read = (e ≡ refusal) × (read ≡ None)
+ReadsFirst refusal result read = Gives told seen_rest result (want read refusal)
 
 -- one more parameter in front of those that follow it
 abbrev pub with_args : List Desc → Option (List Desc × List ℕ) → Option (List Desc × List ℕ)
@@ -46,7 +51,7 @@ with_args front read = option_map (λ x. (front ++ x.0, x.1)) read
 -- what follows a `)` at the front
 abbrev pub after_args_of : List ℕ → Option (List ℕ)
 after_args_of [] = None
-after_args_of (u ∷ us) = if u == 41 then Some us else None
+after_args_of (u ∷ us) = if u == args_end then Some us else None
 
 -- a first parameter, and the parameters after it
 pub record IsNext (us : List ℕ) (room : ℕ) (desc : Desc) (left : ℕ) (rest : List ℕ) : Type 0 where

@@ -23,7 +23,9 @@ text_bytes us = flat_map unit_bytes us
 
 -- two bytes that are a unit: 0, or one from 128 on
 abbrev pub is_two : ℕ → ℕ → Bool
-is_two a b = nat_le 192 a && nat_lt a 224 && nat_le 128 b && nat_lt b 192 && (nat_eq a 192 && nat_eq b 128 || nat_le 194 a)
+is_two a b =
+    nat_le 192 a && nat_lt a 224 && nat_le 128 b && nat_lt b 192
+    && (nat_eq a 192 && nat_eq b 128 || nat_le 194 a)
 
 -- the unit of a first byte and one that continues it
 abbrev pub two : ℕ → ℕ → ℕ
@@ -31,7 +33,9 @@ two a b = (a - 192) * 64 + (b - 128)
 
 -- three bytes that are a unit from 2048 on
 abbrev pub is_three : ℕ → ℕ → ℕ → Bool
-is_three a b c = nat_le 224 a && nat_lt a 240 && nat_le 128 b && nat_lt b 192 && nat_le 128 c && nat_lt c 192 && (nat_lt 224 a || nat_le 160 b)
+is_three a b c =
+    nat_le 224 a && nat_lt a 240 && nat_le 128 b && nat_lt b 192 && nat_le 128 c && nat_lt c 192
+    && (nat_lt 224 a || nat_le 160 b)
 
 -- the unit of a first byte and two that continue it
 abbrev pub three : ℕ → ℕ → ℕ → ℕ

@@ -25,7 +25,9 @@ pub record FrameTakes (takes : ℕ) (f : Frame) : Type 0 where
 
 -- the frame at its next address, the answer in place of the operands that were taken
 abbrev pub frame_answered : ℕ → ℕ → Option Value → Frame → Frame
-frame_answered next takes value f = record f { at = next; stack = record { values = option_to_list value ++ drop takes f.stack.values; room = f.stack.room } }
+frame_answered next takes value f =
+    let values = option_to_list value ++ drop takes f.stack.values in
+    record f { at = next; stack = record { values = values; room = f.stack.room } }
 
 -- the level is such a frame
 abbrev pub LevelTakes : ℕ → Level → Type 0

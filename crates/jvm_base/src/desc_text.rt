@@ -3,10 +3,10 @@
 ghost use Rattle.std.specs.Prelude.{◌≡◌, ◌≢◌, ◌==◌, ◌&&◌, not, position, List as Items, ℕ, Some, is_some, option_map, IfOk, IfErr};
 ghost use Rattle.std.specs.List.{list_all};
 ghost use Rattle.std.specs.Option.{option_copied};
-ghost use Rattle.jvm_base.specs.Reads.{Reads, told};
-ghost use Rattle.jvm_base.specs.Told.{Tells, Gives, itself};
-ghost use Rattle.jvm_base.specs.Refusing.{want};
+ghost use Rattle.jvm_base.specs.Reads.{Reads, Refuses, SpellsNone};
+ghost use Rattle.jvm_base.specs.declared.units.NameErr.TheVariants.{BadDesc};
 ghost use Rattle.jvm_base.specs.Descriptors.{is_class_name, name_at, elem_at, desc_at, desc_of, args_of, is_void, return_of, method_of, is_method_of, elem_slots, desc_slots, desc_text, method_text, IsDesc, IsMethodDesc};
+ghost use Rattle.jvm_base.specs.Letters.{array_letter, class_end};
 ghost use Rattle.jvm_base.specs.SeenDescs.{seen_elem, seen_desc, within, after_args_of, IsFirstOf, ReadsFirst};
 
 use crate::desc::{Desc, Elem, MethodDesc};
@@ -78,7 +78,7 @@ enum SeenArg<'a> {
 }
 
 fn are_name_units(units: &[u16]) -> bool
-    ensures { result ≡ list_all (λ u. not (u == 59) && not (u == 91)) units.now }
+    ensures { result ≡ list_all (λ u. not (u == class_end) && not (u == array_letter)) units.now }
 {
     units
         .iter()
@@ -93,14 +93,14 @@ fn is_class_name(name: &[u16]) -> bool
 
 /// The place of the first `;`.
 fn name_end(units: &[u16]) -> Option<usize>
-    ensures { result ≡ position (λ u. u == 59) units.now }
+    ensures { result ≡ position (λ u. u == class_end) units.now }
 {
     units.iter().position(|unit| *unit == NAME_END)
 }
 
 /// How many `[` there are before the first unit that is none.
 fn leading_brackets(units: &[u16]) -> Option<usize>
-    ensures { result ≡ position (λ u. not (u == 91)) units.now }
+    ensures { result ≡ position (λ u. not (u == array_letter)) units.now }
 {
     units.iter().position(|unit| *unit != BRACKET)
 }
@@ -200,7 +200,7 @@ impl SeenDesc<'_> {
 /// The descriptor of a field that the whole text is.
 #[tactic(auto, unfolding(crate::specs::Descriptors::desc_of))]
 fn read_desc(alloc: Global, units: &[u16]) -> Result<Desc, NameErr>
-    ensures { Reads NameErr.BadDesc result (desc_of units.now) }
+    ensures { Reads BadDesc result (desc_of units.now) }
 {
     match first_desc(units) {
         Some((desc, [])) => Ok(desc.to_desc(alloc)?),
@@ -223,7 +223,7 @@ fn is_void(units: &[u16]) -> bool
 
 /// The result of a method that the whole text is.
 fn read_return(alloc: Global, units: &[u16]) -> Result<Option<Desc>, NameErr>
-    ensures { Reads NameErr.BadDesc result (return_of units.now) }
+    ensures { Reads BadDesc result (return_of units.now) }
 {
     if is_void(units) {
         Ok(None)
@@ -262,26 +262,23 @@ fn first_arg(units: &[u16], room: u32) -> Option<SeenArg<'_>>
 
 /// The parameters up to the `)`, and what follows it.
 fn read_args(alloc: Global, units: &[u16]) -> Result<(List<Desc>, &[u16]), NameErr>
-    ensures { ReadsFirst NameErr.BadDesc result (within 255 (args_of units.now)) }
+    ensures { ReadsFirst BadDesc result (within 255 (args_of units.now)) }
 {
     let mut args = List::new(alloc);
     let mut rest = units;
     let mut room = 255;
     loop {
-        match first_arg(rest, room) {
-            Some(
-                SeenArg::Next {
-                    desc,
-                    left,
-                    rest: after,
-                },
-            ) => {
+        match first_arg(rest, room).ok_or(NameErr::BadDesc)? {
+            SeenArg::Next {
+                desc,
+                left,
+                rest: after,
+            } => {
                 args.push(desc.to_desc(alloc)?)?;
                 room = left;
                 rest = after;
             }
-            Some(SeenArg::End { rest: after }) => return Ok((args, after)),
-            None => return Err(NameErr::BadDesc),
+            SeenArg::End { rest: after } => return Ok((args, after)),
         }
     }
 }
@@ -293,19 +290,16 @@ fn skip_args(units: &[u16], most_slots: u32) -> Option<&[u16]>
     let mut rest = units;
     let mut room = most_slots;
     loop {
-        match first_arg(rest, room) {
-            Some(
-                SeenArg::Next {
-                    left,
-                    rest: after,
-                    ..
-                },
-            ) => {
+        match first_arg(rest, room)? {
+            SeenArg::Next {
+                left,
+                rest: after,
+                ..
+            } => {
                 room = left;
                 rest = after;
             }
-            Some(SeenArg::End { rest: after }) => return Some(after),
-            None => return None,
+            SeenArg::End { rest: after } => return Some(after),
         }
     }
 }
@@ -314,9 +308,9 @@ impl Desc {
     /// The type that a field's descriptor spells.
     pub fn read_field(alloc: Global, text: &Units) -> Result<Desc, NameErr>
         ensures found { IfOk result (λ d. IsDesc d × (text.now ≡ desc_text d)) }
-        ensures only { (d : Desc) → IsDesc d → text.now ≡ desc_text d → Reads NameErr.BadDesc result (Some d) }
-        ensures refused { IfErr result (Tells told (λ e. (e ≡ NameErr.BadDesc) × ((d : Desc) → IsDesc d → text.now ≢ desc_text d))) }
-        ensures exact { Reads NameErr.BadDesc result (desc_of text.now) }
+        ensures only { (d : Desc) → IsDesc d → text.now ≡ desc_text d → Reads BadDesc result (Some d) }
+        ensures refused { IfErr result (Refuses BadDesc (SpellsNone IsDesc desc_text text.now)) }
+        ensures exact { Reads BadDesc result (desc_of text.now) }
     {
         read_desc(alloc, text.as_slice())
     }
@@ -331,7 +325,7 @@ impl Desc {
 
 #[tactic(auto, unfolding(crate::specs::Descriptors::method_of))]
 fn read_method(alloc: Global, units: &[u16]) -> Result<MethodDesc, NameErr>
-    ensures { Reads NameErr.BadDesc result (method_of units.now) }
+    ensures { Reads BadDesc result (method_of units.now) }
 {
     let [OPEN, after @ ..] = units else {
         return Err(NameErr::BadDesc);
@@ -349,9 +343,10 @@ impl MethodDesc {
     /// The parameters and the result that a method's descriptor spells.
     pub fn read_method(alloc: Global, text: &Units) -> Result<MethodDesc, NameErr>
         ensures found { IfOk result (λ m. IsMethodDesc m × (text.now ≡ method_text m)) }
-        ensures only { (m : MethodDesc) → IsMethodDesc m → text.now ≡ method_text m → Reads NameErr.BadDesc result (Some m) }
-        ensures refused { IfErr result (Tells told (λ e. (e ≡ NameErr.BadDesc) × ((m : MethodDesc) → IsMethodDesc m → text.now ≢ method_text m))) }
-        ensures exact { Reads NameErr.BadDesc result (method_of text.now) }
+        ensures only { (m : MethodDesc) → IsMethodDesc m → text.now ≡ method_text m
+            → Reads BadDesc result (Some m) }
+        ensures refused { IfErr result (Refuses BadDesc (SpellsNone IsMethodDesc method_text text.now)) }
+        ensures exact { Reads BadDesc result (method_of text.now) }
     {
         read_method(alloc, text.as_slice())
     }

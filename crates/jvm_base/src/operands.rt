@@ -1,6 +1,7 @@
 //! The operand stack of a frame.
 
 ghost use Rattle.std.specs.Prelude.{◌≡◌, ◌<◌, ◌≤◌, ◌∷◌, [], drop, length, slice_get, MatchOption, IfOk};
+ghost use Rattle.jvm_base.specs.Stack.{pushed};
 
 use crate::memory::NoMemory;
 use crate::value::Value;
@@ -40,14 +41,16 @@ impl Operands {
     /// Puts a value on top. It takes no memory.
     pub fn push(&mut self, value: Value)
         requires { length self.old.values < self.old.room }
-        ensures { self.new ≡ record { values = value ∷ self.old.values; room = self.old.room } }
+        ensures { self.new ≡ pushed value self.old }
     {
         self.items.push_reserved(value);
     }
 
     /// Takes the newest value off; `None` exactly where there is none.
     pub fn pop(&mut self) -> Option<Value>
-        ensures { MatchOption result ((self.old.values ≡ []) × (self.new ≡ self.old)) (λ v. self.old ≡ record { values = v ∷ self.new.values; room = self.new.room }) }
+        ensures { MatchOption result
+            ((self.old.values ≡ []) × (self.new ≡ self.old))
+            (λ v. self.old ≡ pushed v self.new) }
     {
         self.items.pop()
     }

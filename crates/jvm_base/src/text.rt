@@ -1,9 +1,8 @@
 //! Modified UTF-8 (JVMS2 4.4.7).
 
 ghost use Rattle.std.specs.Prelude.{◌≡◌, ◌≢◌, ◌++◌, List, ℕ, Some, length, min, option_map, IfOk, IfErr, OnOk};
-ghost use Rattle.jvm_base.specs.Reads.{Reads, told};
-ghost use Rattle.jvm_base.specs.Told.{Tells, Gives, itself};
-ghost use Rattle.jvm_base.specs.Refusing.{want};
+ghost use Rattle.jvm_base.specs.Reads.{Reads, Refuses, SpellsNone};
+ghost use Rattle.jvm_base.specs.declared.units.NameErr.TheVariants.{BadUtf};
 ghost use Rattle.jvm_base.specs.Text.{is_one, is_two, is_three, unit_at, units_of, unit_bytes, text_bytes};
 ghost use Rattle.jvm_base.specs.Units.{AreUnits};
 
@@ -49,7 +48,7 @@ fn first_unit(bytes: &[u8]) -> Option<(u16, &[u8])>
 }
 
 fn read_units(alloc: Global, bytes: &[u8]) -> Result<Units, NameErr>
-    ensures { Reads NameErr.BadUtf result (units_of bytes.now) }
+    ensures { Reads BadUtf result (units_of bytes.now) }
 {
     let mut units = Units::new(alloc);
     let mut rest = bytes;
@@ -97,9 +96,9 @@ impl Units {
     /// The text that bytes of modified UTF-8 spell.
     pub fn read(alloc: Global, bytes: &[u8]) -> Result<Units, NameErr>
         ensures found { IfOk result (λ us. AreUnits us × (bytes.now ≡ text_bytes us)) }
-        ensures only { (us : List ℕ) → AreUnits us → bytes.now ≡ text_bytes us → Reads NameErr.BadUtf result (Some us) }
-        ensures refused { IfErr result (Tells told (λ e. (e ≡ NameErr.BadUtf) × ((us : List ℕ) → AreUnits us → bytes.now ≢ text_bytes us))) }
-        ensures exact { Reads NameErr.BadUtf result (units_of bytes.now) }
+        ensures only { (us : List ℕ) → AreUnits us → bytes.now ≡ text_bytes us → Reads BadUtf result (Some us) }
+        ensures refused { IfErr result (Refuses BadUtf (SpellsNone AreUnits text_bytes bytes.now)) }
+        ensures exact { Reads BadUtf result (units_of bytes.now) }
     {
         read_units(alloc, bytes)
     }
