@@ -16,6 +16,7 @@ use Rattle.class_format.proofs.Bytes.{AreBytes-drop, AreBytes-take}
 cut : (m n : ℕ) (l : List ℕ) → drop n l ≡ take m (drop n l) ++ drop (n + m) l
 cut m n l = sym (ap (λ (x : List ℕ). take m (drop n l) ++ x) (sym (drop-drop m n l)) ∙ take-append-drop m (drop n l))
 
+-- the bytes behind the head are spelled by these parts, which fit
 pub record IsTail (tail : List ℕ) (parts : ℕ × ℕ × List ℕ) : Type 0 where
   pub spelled : tail ≡ tail_bytes parts.0 parts.1 parts.2
   pub short : length parts.2 < 2 ^ 16
@@ -23,12 +24,15 @@ pub record IsTail (tail : List ℕ) (parts : ℕ × ℕ × List ℕ) : Type 0 wh
   pub locals : parts.1 < 2 ^ 16
   pub fits : AreBytes parts.2
 
+-- two bytes are a number below 65,536
 below16 : (bytes : List ℕ) → AreBytes bytes → from_be_bytes w16 bytes < 2 ^ 16
 below16 bytes fits = omega (arith, fits 0, fits 1)
 
+-- equal parts make equal wholes
 joined : (a a' s s' m m' l l' c z z' : List ℕ) → a ≡ a' → s ≡ s' → m ≡ m' → l ≡ l' → z ≡ z' → a ++ (s ++ (m ++ (l ++ (c ++ z)))) ≡ a' ++ (s' ++ (m' ++ (l' ++ (c ++ z'))))
 joined a a' s s' m m' l l' c z z' p q r t u = cc
 
+-- bytes of the right lengths and end are a tail
 made : (tail : List ℕ) (n : ℕ) → AreBytes tail → length tail ≡ 18 + n → n < 65536 → take 4 tail ≡ to_be_bytes w32 (n + 12) → take 4 (drop 8 tail) ≡ to_be_bytes w32 n → drop (12 + n) tail ≡ replicate 6 0
     → IsTail tail (from_be_bytes w16 (take 2 (drop 4 tail)), from_be_bytes w16 (take 2 (drop 6 tail)), take n (drop 12 tail))
 made tail n fits len short a l z =
@@ -46,12 +50,15 @@ made tail n fits len short a l z =
       fits = AreBytes-take n (drop 12 tail) (AreBytes-drop 12 tail fits);
     }
 
+-- bytes that pass the test are the same
 pub equal : (xs ys : List ℕ) → bytes_eq xs ys ≡ true → xs ≡ ys
 equal xs ys e = (bytes_eq-Decides xs ys).0 e
 
+-- bytes that are the same pass the test
 pub same : (xs ys : List ℕ) → xs ≡ ys → bytes_eq xs ys ≡ true
 same xs ys e = (bytes_eq-Decides xs ys).1 e
 
+-- five tests that hold together hold each
 five : (a b c d e : Bool) → (a && (b && (c && (d && e)))) ≡ true → (a ≡ true) × (b ≡ true) × (c ≡ true) × (d ≡ true) × (e ≡ true)
 five a b c d e h =
     let p = and_parts a (b && (c && (d && e))) h in
@@ -60,6 +67,7 @@ five a b c d e h =
     let s = and_parts d e r.1 in
     (p.0, q.0, r.0, s.0, s.1)
 
+-- bytes that pass the reader's test are a tail
 is_tail-made : (tail : List ℕ) (n : ℕ) → AreBytes tail → n ≡ length tail - 18 → is_tail n tail ≡ true → IsTail tail (from_be_bytes w16 (take 2 (drop 4 tail)), from_be_bytes w16 (take 2 (drop 6 tail)), take n (drop 12 tail))
 is_tail-made tail n fits m h =
     let t = five (nat_le 18 (length tail)) (nat_lt n 65536) (bytes_eq (take 4 tail) (to_be_bytes w32 (n + 12))) (bytes_eq (take 4 (drop 8 tail)) (to_be_bytes w32 n)) (bytes_eq (drop (12 + n) tail) (replicate 6 0)) h in
@@ -67,6 +75,7 @@ is_tail-made tail n fits m h =
     let lt : n < 65536 = grind (arith, nat_tests, t.1) in
     made tail n fits (omega arith) lt (equal _ _ t.2) (equal _ _ t.3) (equal _ _ t.4)
 
+-- the parts that are read are spelled
 pub parts_take : (tail : List ℕ) (x : ℕ × ℕ × List ℕ) → AreBytes tail → parts_of tail ≡ Some x → IsTail tail x
 unfolding parts_of
 parts_take tail x fits e =
@@ -75,9 +84,11 @@ parts_take tail x fits e =
       | inr h ↦ let q : None ≡ Some x = h.1 in absurd cc
     ]
 
+-- parts that are there
 abbrev pub parts : ℕ → ℕ → List ℕ → Option (ℕ × ℕ × List ℕ)
 parts s m code = Some (s, m, code)
 
+-- five tests that hold each hold together
 all_true : (a b c d e : Bool) → a ≡ true → b ≡ true → c ≡ true → d ≡ true → e ≡ true → (a && (b && (c && (d && e)))) ≡ true
 all_true a b c d e p q r s t = rw (p, q, r, s, t) refl
 
@@ -93,6 +104,7 @@ parts_at tail n len short a l z =
     let is : is_tail (length tail - 18) tail ≡ true = ap (λ (k : ℕ). is_tail k tail) m ∙ t in
     rw is (ap (λ (k : ℕ). parts (from_be_bytes w16 (take 2 (drop 4 tail))) (from_be_bytes w16 (take 2 (drop 6 tail))) (take k (drop 12 tail))) m)
 
+-- the parts that are spelled are read
 pub parts_again : (s m : ℕ) (code : List ℕ) → s < 2 ^ 16 → m < 2 ^ 16 → length code < 2 ^ 16 → parts_of (tail_bytes s m code) ≡ parts s m code
 parts_again s m code fs fm short =
     let behind : drop 12 (tail_bytes s m code) ≡ code ++ replicate 6 0 = refl in
@@ -103,5 +115,6 @@ parts_again s m code fs fm short =
     let len : length (tail_bytes s m code) ≡ 18 + length code = omega (arith, length-append code (replicate 6 0)) in
     parts_at (tail_bytes s m code) (length code) len short refl refl end ∙ three_are first second third
   where
+    -- equal parts are the same parts
     three_are : {a b c d : ℕ} {x y : List ℕ} → a ≡ b → c ≡ d → x ≡ y → parts a c x ≡ parts b d y
     three_are {a} {b} {c} {d} {x} {y} p q r = ap (λ (k : ℕ). parts k c x) p ∙ ap (λ (k : ℕ). parts b k x) q ∙ ap (λ (k : List ℕ). parts b d k) r

@@ -1,2 +1,4 @@
+pub mod Head
+pub mod Opcodes
 pub mod Thin
 pub mod ThinReading

@@ -1,8 +1,8 @@
 //! The walk over the operand stack of a thin file.
 
-ghost use Rattle.std.specs.Prelude.{◌≡◌, [], ◌∷◌, length, Some, None, MatchOption, OnErr, OnOk, IfOk, MatchBool};
+ghost use Rattle.std.specs.Prelude.{◌≡◌, [], ◌∷◌, length, Some, None, IfSome, IfNone, OnOk, IfOk};
 ghost use Rattle.thin_file.specs.Thin.{two_wholes, kinds_after, is_end, is_walk};
-ghost use Rattle.thin_file.specs.ThinReading.{Computes};
+ghost use Rattle.thin_file.specs.ThinReading.{Applies};
 
 use crate::thin::ThinOp;
 use jvm_base::NoMemory;
@@ -10,7 +10,7 @@ use std::alloc::Global;
 use std::marker::Model;
 
 /// What an operand of a thin file's code is: a number, or `System.out`.
-#[derive(Clone, Copy, Debug, PartialEq, Eq)]
+#[derive(Clone, Copy, PartialEq, Eq)]
 pub enum Kind {
     Whole,
     Console,
@@ -54,14 +54,16 @@ impl Kinds {
     }
 
     fn pop(&mut self) -> Option<Kind>
-        ensures { MatchOption result ((self.old ≡ []) × (self.new ≡ [])) (λ kind. self.old ≡ kind ∷ self.new) }
+        ensures some { IfSome result (λ kind. self.old ≡ kind ∷ self.new) }
+        ensures none { IfNone result (self.old ≡ []) }
+        ensures kept { IfNone result (self.new ≡ []) }
     {
         self.items.pop()
     }
 
     /// Takes two numbers and puts one, or says that they aren't there.
     fn two_wholes(&mut self) -> Result<bool, NoMemory>
-        ensures { IfOk result (λ b. MatchBool b (two_wholes self.old ≡ Some self.new) (two_wholes self.old ≡ None)) }
+        ensures { IfOk result (λ found. Applies found (two_wholes self.old) self.new) }
     {
         match (self.pop(), self.pop()) {
             (Some(Kind::Whole), Some(Kind::Whole)) => {
@@ -74,7 +76,7 @@ impl Kinds {
 
     /// The operands after an instruction, or whether it doesn't find its own.
     fn after(&mut self, op: ThinOp) -> Result<bool, NoMemory>
-        ensures { IfOk result (λ b. MatchBool b (kinds_after op self.old ≡ Some self.new) (kinds_after op self.old ≡ None)) }
+        ensures { IfOk result (λ found. Applies found (kinds_after op self.old) self.new) }
     {
         match op {
             ThinOp::Push(_) => {
@@ -98,7 +100,7 @@ impl Kinds {
 
 /// Whether each instruction finds its operands within so many, and `return` is the last one alone.
 pub(crate) fn is_walk(alloc: Global, most: u16, ops: &[ThinOp]) -> Result<bool, NoMemory>
-    ensures { Computes result (is_walk most [] ops.now) }
+    ensures { IfOk result (λ it. it ≡ is_walk most [] ops.now) }
 {
     let mut kinds = Kinds::new(alloc);
     let mut rest = ops;

@@ -7,4 +7,4 @@ mod thin_laws;
 
 pub use kinds::Kind;
 pub use thin::{HEAD, ThinCode, ThinErr, ThinOp, read_thin};
-pub use thin_laws::thin_is_class;
+pub use thin_laws::{head_is_spelled, thin_is_class};

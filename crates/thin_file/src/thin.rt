@@ -1,13 +1,14 @@
 //! Thin files: the one class file shape that the first landing runs (docs/THIN_FILES.md).
 
-ghost use Rattle.std.specs.Prelude.{◌≡◌, option_map, MatchResult, IfOk};
-ghost use Rattle.thin_file.specs.declared.thin.ThinErr.TheVariants.{NoMemory as OutOfMemory};
-ghost use Rattle.thin_file.specs.Thin.{IsThin};
-ghost use Rattle.thin_file.specs.ThinReading.{short_op, wide_op, longer_op, first_op, ops_of, parts_of, code_of, thin_of, Computes};
+ghost use Rattle.std.specs.Prelude.{◌≡◌, option_map, IfOk};
+ghost use Rattle.thin_file.specs.Thin.{IsThin, IsReadAs};
+ghost use Rattle.thin_file.specs.ThinReading.{short_op, wide_op, longer_op, first_op};
+ghost use Rattle.thin_file.specs.ThinReading.{ops_of, parts_of, code_of, thin_of};
 
 use crate::kinds::is_walk;
 use jvm_base::{List, NoMemory};
 use std::alloc::Global;
+use thiserror::Error;
 
 /// The bytes of a thin file up to the length of its Code attribute: magic, version 46.0, a pool of
 /// 19 items, the public class A under Object, without interfaces and fields, and its one method
@@ -30,15 +31,17 @@ pub const HEAD: [u8; 214] = [
 ];
 
 /// Why a file isn't read as a thin one.
-#[derive(Clone, Copy, Debug, PartialEq, Eq)]
+#[derive(Clone, Copy, Debug, PartialEq, Eq, Error)]
 pub enum ThinErr {
+    #[error("not a thin file")]
     NotThin,
+    #[error("want of memory")]
     NoMemory,
 }
 
 /// An instruction of a thin file: a number put on the stack, arithmetic on the two newest numbers,
 /// `System.out` put on the stack, `println(I)V`, `return`.
-#[derive(Clone, Copy, Debug, PartialEq, Eq)]
+#[derive(Clone, Copy, PartialEq, Eq)]
 pub enum ThinOp {
     Push(i32),
     Add,
@@ -50,23 +53,51 @@ pub enum ThinOp {
 }
 
 /// The code of a thin file's `main`.
-#[derive(Debug, Drop)]
+#[derive(Drop)]
 pub struct ThinCode {
     pub max_stack: u16,
     pub max_locals: u16,
     pub ops: List<ThinOp>,
 }
 
+/// The opcodes of a thin file's code (JVMS2 chapter 9).
+const ICONST_M1: u8 = 2;
+
+const ICONST_0: u8 = 3;
+
+const ICONST_5: u8 = 8;
+
+const BIPUSH: u8 = 16;
+
+const SIPUSH: u8 = 17;
+
+const IADD: u8 = 96;
+
+const ISUB: u8 = 100;
+
+const IMUL: u8 = 104;
+
+const RETURN: u8 = 177;
+
+const GETSTATIC: u8 = 178;
+
+const INVOKEVIRTUAL: u8 = 182;
+
+/// Where its pool has `System.out` and `println(I)V`.
+const OUT_ITEM: u8 = 13;
+
+const PRINTLN_ITEM: u8 = 19;
+
 #[tactic(auto, unfolding(crate::specs::ThinReading::short_op))]
 fn short_op(opcode: u8) -> Option<ThinOp>
     ensures { result ≡ short_op opcode }
 {
     match opcode {
-        2..=8 => Some(ThinOp::Push(i32::from(opcode) - 3)),
-        96 => Some(ThinOp::Add),
-        100 => Some(ThinOp::Sub),
-        104 => Some(ThinOp::Mul),
-        177 => Some(ThinOp::Return),
+        ICONST_M1..=ICONST_5 => Some(ThinOp::Push(i32::from(opcode) - i32::from(ICONST_0))),
+        IADD => Some(ThinOp::Add),
+        ISUB => Some(ThinOp::Sub),
+        IMUL => Some(ThinOp::Mul),
+        RETURN => Some(ThinOp::Return),
         _ => None,
     }
 }
@@ -75,13 +106,13 @@ fn short_op(opcode: u8) -> Option<ThinOp>
 fn wide_op(opcode: u8, a: u8, b: u8) -> Option<ThinOp>
     ensures { result ≡ wide_op opcode a b }
 {
-    if opcode == 17 {
+    if opcode == SIPUSH {
         return Some(ThinOp::Push(i32::from(i16::from_be_bytes([a, b]))));
     }
-    if opcode == 178 && a == 0 && b == 13 {
+    if opcode == GETSTATIC && a == 0 && b == OUT_ITEM {
         return Some(ThinOp::Stream);
     }
-    if opcode == 182 && a == 0 && b == 19 {
+    if opcode == INVOKEVIRTUAL && a == 0 && b == PRINTLN_ITEM {
         return Some(ThinOp::Print);
     }
     None
@@ -92,7 +123,10 @@ fn longer_op(opcode: u8, rest: &[u8]) -> Option<(ThinOp, &[u8])>
     ensures { option_map (λ x. (x.0, x.1.now)) result ≡ longer_op opcode rest.now }
 {
     match rest {
-        [a, rest @ ..] if opcode == 16 => Some((ThinOp::Push(i32::from(a.cast_signed())), rest)),
+        [a, rest @ ..] if opcode == BIPUSH => Some((
+            ThinOp::Push(i32::from(a.cast_signed())),
+            rest,
+        )),
         [a, b, rest @ ..] => {
             let op = wide_op(opcode, *a, *b)?;
             Some((op, rest))
@@ -115,7 +149,7 @@ fn first_op(bytes: &[u8]) -> Option<(ThinOp, &[u8])>
 
 /// The instructions that the bytes spell, or `None` where they spell none.
 fn ops(alloc: Global, bytes: &[u8]) -> Result<Option<List<ThinOp>>, NoMemory>
-    ensures { Computes result (ops_of bytes.now) }
+    ensures { IfOk result (λ it. it ≡ ops_of bytes.now) }
 {
     let mut ops = List::new(alloc);
     let mut rest = bytes;
@@ -160,7 +194,7 @@ fn code(
     max_locals: u16,
     bytes: &[u8],
 ) -> Result<Option<ThinCode>, NoMemory>
-    ensures { Computes result (code_of (max_stack, max_locals, bytes.now)) }
+    ensures { IfOk result (λ it. it ≡ code_of (max_stack, max_locals, bytes.now)) }
 {
     if max_locals == 0 {
         return Ok(None);
@@ -181,7 +215,7 @@ fn code(
 /// The code of a thin file, or `None` where the bytes are none.
 #[tactic(auto, unfolding(crate::specs::ThinReading::thin_of))]
 fn thin(alloc: Global, bytes: &[u8]) -> Result<Option<ThinCode>, NoMemory>
-    ensures { Computes result (thin_of bytes.now) }
+    ensures { IfOk result (λ it. it ≡ thin_of bytes.now) }
 {
     let Some(tail) = bytes.strip_prefix(HEAD.as_slice()) else {
         return Ok(None);
@@ -197,7 +231,7 @@ pub fn read_thin(alloc: Global, bytes: &[u8]) -> Result<ThinCode, ThinErr>
     // What is read is spelled by the bytes.
     ensures found { IfOk result (λ code. IsThin bytes.now code) }
     // What they spell is read, unless memory ran out.
-    ensures only { (code : ThinCode) → IsThin bytes.now code → MatchResult result (λ it. it ≡ code) (λ e. e ≡ OutOfMemory) }
+    ensures only { (code : ThinCode) → IsThin bytes.now code → IsReadAs result code }
 {
     match thin(alloc, bytes) {
         Ok(Some(code)) => Ok(code),
