@@ -1,5 +1,7 @@
+pub mod FirstFile
 pub mod Kept
 pub mod LawProofs
+pub mod Orders
 pub mod Printed
 pub mod Progress
 pub mod Reasons

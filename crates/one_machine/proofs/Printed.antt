@@ -12,6 +12,7 @@ use Rattle.std.proofs.lemmas.Int.{ints, to_z-of_z}
 use Rattle.std.proofs.lemmas.Str.{IsAscii-append}
 use Rattle.one_machine.specs.Serve.{printed, printed_unit}
 
+-- a unit below 128 is printed as itself
 one_unit : (u : ℕ) → u < 128 → printed_unit u ≡ u ∷ []
 one_unit zero lt = refl
 one_unit (suc n) lt =
@@ -26,9 +27,11 @@ printed-ascii [] h = refl
 printed-ascii (u ∷ us) h =
     flat_map-cons printed_unit u us ∙ rw (one_unit u (h 0)) (ap (λ (x : List ℕ). u ∷ x) (printed-ascii us (λ i. h (suc i))))
 
+-- LF is ASCII
 lf_ascii : IsAscii (10 ∷ [])
 lf_ascii i = elim i as (λ i. get_or (10 ∷ []) i 0 < 128) [ zero ↦ omega arith | suc k ↦ omega arith ]
 
+-- an int is small enough to be written out
 small : (n : ℤ) → FitsSigned w32 n → mag n < 2 ^ 63
 small n fits = omega (arith, ints)
 

@@ -17,27 +17,29 @@ use Rattle.thin_file.specs.declared.thin.ThinOp.{ThinOp}
 use Rattle.thin_file.specs.declared.thin.ThinOp.TheVariants as op
 use Rattle.thin_file.specs.declared.thin.ThinCode.{ThinCode}
 use Rattle.thin_file.specs.Thin.{two_wholes, kinds_after, is_walk, IsThinCode}
-use Rattle.one_machine.specs.declared.program.TheConstants.{STREAM}
+use Rattle.one_machine.specs.Numbers.{stream}
 use Rattle.one_machine.specs.declared.act.Act.{Act}
 use Rattle.one_machine.specs.declared.act.Act.TheVariants.{Begin, Initialised, Enter, Answer, Print, Leave, End, Stuck}
 use Rattle.one_machine.specs.State.{State}
 use Rattle.one_machine.specs.Step.{step}
 use Rattle.one_machine.specs.Runs.{any_choice}
 use Rattle.one_machine.specs.Program.{op_at}
-use Rattle.one_machine.specs.Acts.{arith as arith_of, op_act, act_of, acted, first_locals, CanAct, IsGoing, Grows}
+use Rattle.one_machine.specs.Acts.{arith as arith_of, op_act, act_of, state_after, first_locals, CanAct, IsGoing, Grows}
 use Rattle.one_machine.specs.Serve.{printed}
 use Rattle.one_machine.specs.Sound.{Stage, Untouched, Initialising, Ready, At, Returned, Over, state_at, IsOf, AreOf, Reaches, Fits, left, IsSound}
 use Rattle.one_machine.proofs.Steps.{begins, initialises, enters, ends, pushes, adds, subtracts, multiplies, gets, prints, returns}
 
 -- ---- what is next
 
+-- the act is what the machine does next: it can be done, is the defined step, and leaves a sound state
 pub record Progress (code : ThinCode) (m : State) (act : Act) : Type 0 where
   pub is : act_of code m ≡ act
   pub can : CanAct act m
-  pub step : step code m (any_choice 0) ≡ Some (acted code act m)
-  pub sound : IsSound code (acted code act m)
-  pub grows : Grows m (acted code act m)
+  pub step : step code m (any_choice 0) ≡ Some (state_after code act m)
+  pub sound : IsSound code (state_after code act m)
+  pub grows : Grows m (state_after code act m)
 
+-- nothing is added to the output
 append_none : (out : List ℕ) → out ≡ out ++ []
 append_none [] = refl
 append_none (b ∷ out) = ap (λ (x : List ℕ). b ∷ x) (append_none out)
@@ -49,6 +51,7 @@ pub record Counted (code : ThinCode) (stage : Stage) (n : ℕ) : Type 0 where
 
 -- ---- the stages without an instruction
 
+-- before the first step, the class begins to be initialised
 at_untouched : (code : ThinCode) (n : ℕ) (out : List ℕ) → Counted code Untouched n → Progress code (state_at code Untouched n out) Begin
 at_untouched code n out c = record {
   is = refl;
@@ -58,6 +61,7 @@ at_untouched code n out c = record {
   grows = record { steps = refl; printed = []; output = append_none out };
 }
 
+-- then its initialisation ends
 at_initialising : (code : ThinCode) (n : ℕ) (out : List ℕ) → Counted code Initialising n → Progress code (state_at code Initialising n out) Initialised
 at_initialising code n out c = record {
   is = refl;
@@ -67,6 +71,7 @@ at_initialising code n out c = record {
   grows = record { steps = refl; printed = []; output = append_none out };
 }
 
+-- then `main` is called
 at_ready : (code : ThinCode) (n : ℕ) (out : List ℕ) → IsThinCode code → Counted code Ready n → Progress code (state_at code Ready n out) Enter
 at_ready code n out t c = record {
   is = refl;
@@ -76,6 +81,7 @@ at_ready code n out t c = record {
   grows = record { steps = refl; printed = []; output = append_none out };
 }
 
+-- after `return` the thread ends
 at_returned : (code : ThinCode) (n : ℕ) (out : List ℕ) → Counted code Returned n → Progress code (state_at code Returned n out) End
 at_returned code n out c = record {
   is = refl;
@@ -87,17 +93,20 @@ at_returned code n out c = record {
 
 -- ---- the instruction at a place, and what the walk says of it
 
+-- the instruction at a place, and those behind it
 pub record IsNext (code : ThinCode) (i : ℕ) (o : ThinOp) (rest : List ThinOp) : Type 0 where
   pub at : op_at code i ≡ Some o
   pub behind : drop (i + 1) code.ops ≡ rest
   pub inside : length code.ops - i ≡ length rest + 1
 
+-- the first of those left is the one at the place
 slice_get-drop : (ops : List ThinOp) (i : ℕ) (o : ThinOp) (rest : List ThinOp) → drop i ops ≡ o ∷ rest → slice_get ops i ≡ Some o
 slice_get-drop [] zero o rest e = absurd cc
 slice_get-drop [] (suc i) o rest e = absurd cc
 slice_get-drop (p ∷ ops) zero o rest e = let h : p ≡ o = cc in ap Some h
 slice_get-drop (p ∷ ops) (suc i) o rest e = slice_get-drop ops i o rest e
 
+-- what is left of the code tells the next instruction
 is_next : (code : ThinCode) (i : ℕ) (o : ThinOp) (rest : List ThinOp) → drop i code.ops ≡ o ∷ rest → IsNext code i o rest
 is_next code i o rest e = record {
   at = slice_get-drop code.ops i o rest e;
@@ -105,6 +114,7 @@ is_next code i o rest e = record {
   inside = omega (arith, length-drop i code.ops, ap length e);
 }
 
+-- there are as many values as kinds
 same_length : (ks : List Kind) (vs : List Value) → AreOf ks vs → length ks ≡ length vs
 same_length [] [] h = refl
 same_length [] (v ∷ vs) h = absurd h
@@ -116,6 +126,7 @@ pub record Reached (code : ThinCode) (ks : List Kind) (rest : List ThinOp) : Typ
   pub few : length ks ≤ code.max_stack
   pub walk : is_walk code.max_stack ks rest ≡ true
 
+-- the walk's test, in parts
 reached : (code : ThinCode) (ks : List Kind) (rest : List ThinOp) → (nat_le (length ks) code.max_stack && is_walk code.max_stack ks rest) ≡ true → Reached code ks rest
 reached code ks rest h =
     let b = and_parts (nat_le (length ks) code.max_stack) (is_walk code.max_stack ks rest) h in
@@ -132,6 +143,7 @@ pub record TwoNumbers (code : ThinCode) (vs : List Value) (rest : List ThinOp) :
   pub are : AreOf kinds below
   pub reached : Reached code (Whole ∷ kinds) rest
 
+-- where arithmetic finds two numbers, two ints are on top
 after_two : (code : ThinCode) (rest : List ThinOp) (ks : List Kind) (vs : List Value) → AreOf ks vs → from false (λ after. nat_le (length after) code.max_stack && is_walk code.max_stack after rest) (two_wholes ks) ≡ true → TwoNumbers code vs rest
 after_two code rest [] vs h e = absurd cc
 after_two code rest (Whole ∷ []) vs h e = absurd cc
@@ -157,6 +169,7 @@ pub record Printable (code : ThinCode) (vs : List Value) (rest : List ThinOp) : 
   pub are : AreOf kinds below
   pub reached : Reached code kinds rest
 
+-- where `println` finds its operands, an int is on top and a name under it
 after_print : (code : ThinCode) (rest : List ThinOp) (ks : List Kind) (vs : List Value) → AreOf ks vs → from false (λ after. nat_le (length after) code.max_stack && is_walk code.max_stack after rest) (kinds_after op.Print ks) ≡ true → Printable code vs rest
 after_print code rest [] vs h e = absurd cc
 after_print code rest (Whole ∷ []) vs h e = absurd cc
@@ -174,6 +187,7 @@ after_print code rest (Whole ∷ Console ∷ ks) (Null ∷ v ∷ vs) h e = absur
 
 -- ---- each kind of instruction
 
+-- what the frame does, by the instruction at its place
 abbrev level_is : ThinCode → ℕ → List Value → Option ThinOp → Act
 level_is code i vs o = from Stuck (op_act (i + 1) (slice_get vs 1) (slice_get vs 0)) o
 
@@ -253,6 +267,7 @@ pub record Moves (code : ThinCode) (m : State) : Type 0 where
   pub act : Act
   pub progress : Progress code m act
 
+-- arithmetic goes on with its result
 at_two : (code : ThinCode) (i n : ℕ) (ls vs : List Value) (out : List ℕ) (rest : List ThinOp) (o : ThinOp) → Counted code (At i ls vs) n → IsNext code i o rest
     → ((a b : ℤ) → op_act (i + 1) (Some (Int a)) (Some (Int b)) o ≡ Answer (i + 1) 2 (Some (Int (arith_of o a b))))
     → ((a b : ℤ) (below : List Value) → step code (state_at code (At i ls (Int b ∷ Int a ∷ below)) n out) (any_choice 0) ≡ Some (state_at code (At (i + 1) ls (Int (arith_of o a b) ∷ below)) (n + 1) out))
@@ -262,26 +277,30 @@ at_two code i n ls vs out rest o c x act st t =
     let here : P (Int t.b ∷ Int t.a ∷ t.below) = λ c. record { act = Answer (i + 1) 2 (Some (Int (arith_of o t.a t.b))); progress = at_numbers code i n ls t.below out rest o t.a t.b t.kinds c x (act t.a t.b) t.are t.reached (st t.a t.b t.below) } in
     subst P (sym t.is) here c
 
+-- `println` writes its line and goes on
 at_printing : (code : ThinCode) (i n : ℕ) (ls vs : List Value) (out : List ℕ) (rest : List ThinOp) → length vs ≤ code.max_stack → Counted code (At i ls vs) n → IsNext code i op.Print rest → Printable code vs rest → Moves code (state_at code (At i ls vs) n out)
 at_printing code i n ls vs out rest few c x t =
     let P : List Value → Type 0 = λ vs. length vs ≤ code.max_stack → Counted code (At i ls vs) n → Moves code (state_at code (At i ls vs) n out) in
     let here : P (Int t.a ∷ Ref t.o ∷ t.below) = λ few c. record { act = Print (i + 1) t.a; progress = at_print code i n ls t.below out rest t.a t.o t.kinds (omega (arith, few)) c x t.are t.reached } in
     subst P (sym t.is) here few c
 
+-- each instruction that the walk allows moves the machine on
 at_op : (code : ThinCode) (i n : ℕ) (ls vs : List Value) (out : List ℕ) (r : Reaches code i vs) → Counted code (At i ls vs) n → (o : ThinOp) (rest : List ThinOp) → IsNext code i o rest → is_walk code.max_stack r.kinds (o ∷ rest) ≡ true → Moves code (state_at code (At i ls vs) n out)
 at_op code i n ls vs out r c (op.Push k) rest x e = record { act = Answer (i + 1) 0 (Some (Int k)); progress = at_put code i n ls vs out rest c (op.Push k) (Int k) Whole r.kinds x (λ w y. refl) tt r.are (reached code (Whole ∷ r.kinds) rest e) (pushes code i ls vs k x.at n out) }
 at_op code i n ls vs out r c op.Add rest x e = at_two code i n ls vs out rest op.Add c x (λ a b. refl) (λ a b below. adds code i ls below a b x.at n out) (after_two code rest r.kinds vs r.are e)
 at_op code i n ls vs out r c op.Sub rest x e = at_two code i n ls vs out rest op.Sub c x (λ a b. refl) (λ a b below. subtracts code i ls below a b x.at n out) (after_two code rest r.kinds vs r.are e)
 at_op code i n ls vs out r c op.Mul rest x e = at_two code i n ls vs out rest op.Mul c x (λ a b. refl) (λ a b below. multiplies code i ls below a b x.at n out) (after_two code rest r.kinds vs r.are e)
-at_op code i n ls vs out r c op.Stream rest x e = record { act = Answer (i + 1) 0 (Some (Ref STREAM)); progress = at_put code i n ls vs out rest c op.Stream (Ref STREAM) Console r.kinds x (λ w y. refl) tt r.are (reached code (Console ∷ r.kinds) rest e) (gets code i ls vs x.at n out) }
+at_op code i n ls vs out r c op.Stream rest x e = record { act = Answer (i + 1) 0 (Some (Ref stream)); progress = at_put code i n ls vs out rest c op.Stream (Ref stream) Console r.kinds x (λ w y. refl) tt r.are (reached code (Console ∷ r.kinds) rest e) (gets code i ls vs x.at n out) }
 at_op code i n ls vs out r c op.Print rest x e = at_printing code i n ls vs out rest r.few c x (after_print code rest r.kinds vs r.are e)
 at_op code i n ls vs out r c op.Return [] x e = record { act = Leave; progress = at_return code i n ls vs out [] c x }
 at_op code i n ls vs out r c op.Return (o ∷ rest) x e = absurd cc
 
+-- so does the code from a place on
 at_place : (code : ThinCode) (i n : ℕ) (ls vs : List Value) (out : List ℕ) (r : Reaches code i vs) → Counted code (At i ls vs) n → (ops : List ThinOp) → drop i code.ops ≡ ops → is_walk code.max_stack r.kinds ops ≡ true → Moves code (state_at code (At i ls vs) n out)
 at_place code i n ls vs out r c [] e w = absurd cc
 at_place code i n ls vs out r c (o ∷ rest) e w = at_op code i n ls vs out r c o rest (is_next code i o rest e) w
 
+-- so does each stage that isn't the last
 at_stage : (code : ThinCode) (stage : Stage) (n : ℕ) (out : List ℕ) → IsThinCode code → Fits code stage → Counted code stage n → IsGoing (state_at code stage n out) → Moves code (state_at code stage n out)
 at_stage code Untouched n out t f c g = record { act = Begin; progress = at_untouched code n out c }
 at_stage code Initialising n out t f c g = record { act = Initialised; progress = at_initialising code n out c }
@@ -290,24 +309,29 @@ at_stage code (At i ls vs) n out t f c g = at_place code i n ls vs out f c (drop
 at_stage code Returned n out t f c g = record { act = End; progress = at_returned code n out c }
 at_stage code Over n out t f c g = absurd cc
 
+-- a sound state that is going moves on
 pub moves : (code : ThinCode) (m : State) → IsThinCode code → IsSound code m → IsGoing m → Moves code m
 moves code m t s =
     subst (λ (m : State). IsGoing m → Moves code m) (sym s.is) (at_stage code s.stage s.steps m.output t s.fits (record { few = t.length; counted = s.counted }))
 
 -- ---- as the code knows it
 
+-- what follows of a fact at Ok
 on_ok : {P Q : Type 0} (r : Result (Unit {0}) NoMemory) → (P → Q) → OnOk r P → OnOk r Q
 on_ok (Ok u) f h = f h
 on_ok (Err e) f h = tt
 
-pub taken_step : (code : ThinCode) (m n : State) (act : Act) (v : Moves code m) → act ≡ act_of code m → (r : Result (Unit {0}) NoMemory) → OnOk r (n ≡ acted code act m) → OnOk r (step code m (any_choice 0) ≡ Some n)
+-- the act that was done is the defined step
+pub taken_step : (code : ThinCode) (m n : State) (act : Act) (v : Moves code m) → act ≡ act_of code m → (r : Result (Unit {0}) NoMemory) → OnOk r (n ≡ state_after code act m) → OnOk r (step code m (any_choice 0) ≡ Some n)
 taken_step code m n act v e r h =
-    on_ok r (λ k. v.progress.step ∙ ap Some (ap (λ (a : Act). acted code a m) (sym (e ∙ v.progress.is)) ∙ sym k)) h
+    on_ok r (λ k. v.progress.step ∙ ap Some (ap (λ (a : Act). state_after code a m) (sym (e ∙ v.progress.is)) ∙ sym k)) h
 
-pub taken_sound : (code : ThinCode) (m n : State) (act : Act) (v : Moves code m) → act ≡ act_of code m → (r : Result (Unit {0}) NoMemory) → OnOk r (n ≡ acted code act m) → OnOk r (IsSound code n)
+-- the act that was done leaves a sound state
+pub taken_sound : (code : ThinCode) (m n : State) (act : Act) (v : Moves code m) → act ≡ act_of code m → (r : Result (Unit {0}) NoMemory) → OnOk r (n ≡ state_after code act m) → OnOk r (IsSound code n)
 taken_sound code m n act v e r h =
-    on_ok r (λ k. subst (IsSound code) (sym (k ∙ ap (λ (a : Act). acted code a m) (e ∙ v.progress.is))) v.progress.sound) h
+    on_ok r (λ k. subst (IsSound code) (sym (k ∙ ap (λ (a : Act). state_after code a m) (e ∙ v.progress.is))) v.progress.sound) h
 
-pub taken_grows : (code : ThinCode) (m n : State) (act : Act) (v : Moves code m) → act ≡ act_of code m → (r : Result (Unit {0}) NoMemory) → OnOk r (n ≡ acted code act m) → OnOk r (Grows m n)
+-- the act that was done adds one step, and to the output only at its end
+pub taken_grows : (code : ThinCode) (m n : State) (act : Act) (v : Moves code m) → act ≡ act_of code m → (r : Result (Unit {0}) NoMemory) → OnOk r (n ≡ state_after code act m) → OnOk r (Grows m n)
 taken_grows code m n act v e r h =
-    on_ok r (λ k. subst (λ (x : State). Grows m x) (sym (k ∙ ap (λ (a : Act). acted code a m) (e ∙ v.progress.is))) v.progress.grows) h
+    on_ok r (λ k. subst (λ (x : State). Grows m x) (sym (k ∙ ap (λ (a : Act). state_after code a m) (e ∙ v.progress.is))) v.progress.grows) h

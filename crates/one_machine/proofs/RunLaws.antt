@@ -16,13 +16,16 @@ run-push code s m n c [] e h =
     ap (λ (x : State). from None (λ next. Some next) (step code x c)) p ∙ ap (λ (o : Option State). from None (λ next. Some next) o) h
 run-push code s m n c (d ∷ cs) e h = by (λ (next : State). run-push code next m n c cs) (step code s d) e
   where
+    -- by the step of the first choice; `again` is the rest of the order
     by : ((next : State) → run code next cs ≡ Some m → step code m c ≡ Some n → run code next (cs ++ c ∷ []) ≡ Some n) → (o : Option State) → from None (λ next. run code next cs) o ≡ Some m → from None (λ next. run code next (cs ++ c ∷ [])) o ≡ Some n
     by again None e = absurd cc
     by again (Some next) e = again next e h
 
+-- the empty order leads to the start
 pub leads_none : (code : ThinCode) → LeadsTo code [] start
 unfolding run
 leads_none code = refl
 
+-- an order and one more step lead to the state after it
 pub leads_more : (code : ThinCode) (m n : State) (c : Choice) (order : List Choice) → LeadsTo code order m → step code m c ≡ Some n → LeadsTo code (order ++ c ∷ []) n
 leads_more code m n c order e h = run-push code start m n c order e h

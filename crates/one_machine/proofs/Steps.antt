@@ -7,7 +7,7 @@ use Rattle.jvm_base.specs.declared.value.Value.TheVariants.{Int, Ref}
 use Rattle.jvm_base.specs.declared.name.Name.{Name}
 use Rattle.thin_file.specs.declared.thin.ThinOp.TheVariants as op
 use Rattle.thin_file.specs.declared.thin.ThinCode.{ThinCode}
-use Rattle.one_machine.specs.declared.program.TheConstants.{STREAM}
+use Rattle.one_machine.specs.Numbers.{stream}
 use Rattle.one_machine.specs.Next.{plan}
 use Rattle.one_machine.specs.Serve.{serve, printed}
 use Rattle.one_machine.specs.Complete.{complete}
@@ -22,18 +22,22 @@ use Rattle.one_machine.specs.Sound.{Stage, Untouched, Initialising, Ready, At, R
 abbrev pub Leads : ThinCode → Stage → Stage → Type 0
 Leads code s t = (n : ℕ) (out : List ℕ) → step code (state_at code s n out) (any_choice 0) ≡ Some (state_at code t (n + 1) out)
 
+-- the first step begins to initialise the program's class
 pub begins : (code : ThinCode) → Leads code Untouched Initialising
 unfolding step attempt served serve plan complete moved_on
 begins code n out = refl
 
+-- the second ends that
 pub initialises : (code : ThinCode) → Leads code Initialising Ready
 unfolding step attempt served serve plan complete moved_on
 initialises code n out = refl
 
+-- the third calls `main`
 pub enters : (code : ThinCode) → Leads code Ready (At 0 (first_locals code) [])
 unfolding step attempt served serve plan complete moved_on
 enters code n out = refl
 
+-- the last ends the thread
 pub ends : (code : ThinCode) → Leads code Returned Over
 unfolding step attempt served serve plan complete moved_on
 ends code n out = refl
@@ -55,7 +59,7 @@ module _ (code : ThinCode) (i : ℕ) (ls vs : List Value) where
   unfolding step attempt served serve plan complete moved_on
   multiplies a b e n out = rw e refl
 
-  pub gets : op_at code i ≡ Some op.Stream → Leads code (At i ls vs) (At (i + 1) ls (Ref STREAM ∷ vs))
+  pub gets : op_at code i ≡ Some op.Stream → Leads code (At i ls vs) (At (i + 1) ls (Ref stream ∷ vs))
   unfolding step attempt served serve plan complete moved_on start_heap
   gets e n out = rw (e, e) refl
 

@@ -15,7 +15,7 @@ use Rattle.one_machine.specs.declared.state.Mode.TheVariants.{Entry, Running, Ra
 use Rattle.one_machine.specs.Program.{op_at}
 use Rattle.one_machine.specs.Requests.{Request, Begin, InitDone, Finish}
 use Rattle.one_machine.specs.Changes.{Answer, Gives, Raises, Slept}
-use Rattle.one_machine.specs.Next.{moved}
+use Rattle.one_machine.specs.Next.{frame_moved}
 
 -- a thread's mode and levels, the top one first
 abbrev pub Stand : Type 0
@@ -29,7 +29,9 @@ takes _ = 0
 
 -- a frame whose instruction is answered
 abbrev pub answered : ThinCode → Option Value → Frame → Frame
-answered code v f = from f (λ o. moved f (f.at + 1) (option_to_list v ++ drop (takes o) f.stack.values)) (op_at code f.at)
+answered code v f =
+    from f (λ o. frame_moved f (f.at + 1) (option_to_list v ++ drop (takes o) f.stack.values))
+    (op_at code f.at)
 
 -- the top frame goes on with the answer
 abbrev pub answer_top : ThinCode → Option Value → List Level → List Level

@@ -1,8 +1,10 @@
 pub mod Acts
+pub mod Numbers
 pub mod Program
 pub mod State
 pub mod Requests
 pub mod Changes
+pub mod FirstFile
 pub mod LawStatements
 pub mod Next
 pub mod Serve

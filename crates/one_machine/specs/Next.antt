@@ -15,10 +15,10 @@ use Rattle.jvm_base.specs.declared.frame.Level.TheVariants.{Code, Init}
 use Rattle.thin_file.specs.declared.thin.ThinOp.{ThinOp}
 use Rattle.thin_file.specs.declared.thin.ThinOp.TheVariants as op
 use Rattle.thin_file.specs.declared.thin.ThinCode.{ThinCode}
-use Rattle.one_machine.specs.declared.program.TheConstants.{SYSTEM, MAIN_CLASS, MAIN_METHOD, ARGUMENTS}
+use Rattle.one_machine.specs.Numbers.{system, null_pointer, stack_overflow, main_class, main_method, arguments, holder}
 use Rattle.one_machine.specs.declared.state.Mode.{Mode}
 use Rattle.one_machine.specs.declared.state.Mode.TheVariants.{Entry, Running}
-use Rattle.one_machine.specs.Program.{op_at, holder, super_of}
+use Rattle.one_machine.specs.Program.{op_at, super_of}
 use Rattle.one_machine.specs.Requests.{Request, Get, Fault, InitDone, Finish, Print}
 
 -- the top frame goes on, raises, calls, leaves with a value, is dropped by an exception, or asks
@@ -54,14 +54,6 @@ plain n = record { asks = None; next = n }
 abbrev pub asking : ℕ → Next → Plan
 asking c n = record { asks = Some c; next = n }
 
--- NullPointerException and StackOverflowError, by class
-abbrev pub null_pointer : ℕ
-null_pointer = 13
-
--- the class of StackOverflowError
-abbrev pub stack_overflow : ℕ
-stack_overflow = 32
-
 -- an exception that the machine itself makes, of this class
 abbrev pub fault : ℕ → Next
 fault c = Needs (Fault c)
@@ -69,21 +61,29 @@ fault c = Needs (Fault c)
 -- ---- instructions (JVMS2 chapter 6), over the operands with the newest first
 
 -- a frame at another place, with other operands
-abbrev pub moved : Frame → ℕ → List Value → Frame
-moved f at vs = record f { at = at; stack = record { values = vs; room = f.stack.room } }
+abbrev pub frame_moved : Frame → ℕ → List Value → Frame
+frame_moved f at vs = record f { at = at; stack = record { values = vs; room = f.stack.room } }
 
 -- a frame goes on behind its instruction; in thin code the next place is one further
 abbrev pub goes_on : Frame → List Value → Next
-goes_on f vs = Alone (moved f (f.at + 1) vs)
+goes_on f vs = Alone (frame_moved f (f.at + 1) vs)
 
 -- arithmetic on the two newest operands
 abbrev pub two_ints : (ℤ → ℤ → ℤ) → Frame → List Value → Next
 two_ints g f (Int b ∷ Int a ∷ vs) = goes_on f (Int (g a b) ∷ vs)
 two_ints g f _ = Stuck
 
--- `println(I)V` writes the decimal text and LF
+-- LF
+abbrev pub line_feed : ℕ
+line_feed = 10
+
+-- a number's decimal text and LF
+abbrev pub number_line : ℤ → List ℕ
+number_line n = signed_decimal n ++ line_feed ∷ []
+
+-- `println(I)V` writes its argument's line
 abbrev pub prints : List Value → Next
-prints (Int a ∷ Ref n ∷ vs) = Needs (Print (signed_decimal a ++ 10 ∷ []))
+prints (Int a ∷ Ref n ∷ vs) = Needs (Print (number_line a))
 prints (Int a ∷ Null ∷ vs) = fault null_pointer
 prints _ = Stuck
 
@@ -93,7 +93,7 @@ instruction f (op.Push n) vs = plain (goes_on f (Int n ∷ vs))
 instruction f op.Add vs = plain (two_ints (int_wrapping_add w32) f vs)
 instruction f op.Sub vs = plain (two_ints (int_wrapping_sub w32) f vs)
 instruction f op.Mul vs = plain (two_ints (int_wrapping_mul w32) f vs)
-instruction f op.Stream vs = asking SYSTEM (Needs (Get (holder SYSTEM) 0))
+instruction f op.Stream vs = asking system (Needs (Get (holder system) 0))
 instruction f op.Print vs = plain (prints vs)
 instruction f op.Return vs = plain (Leaves None)
 
@@ -109,7 +109,8 @@ calls who m vs = if nat_lt who.depth max_depth then Calls m vs else fault stack_
 
 -- what the top frame does; no method of a thin program is synchronized
 abbrev pub frame_plan : ThinCode → Frame → Phase → Plan
-frame_plan code f phase.Body = from (plain Stuck) (λ o. instruction f o f.stack.values) (op_at code f.at)
+frame_plan code f phase.Body =
+    from (plain Stuck) (λ o. instruction f o f.stack.values) (op_at code f.at)
 frame_plan code f phase.Lock = plain Stuck
 frame_plan code f (phase.Unlock v) = plain Stuck
 
@@ -121,7 +122,9 @@ running_plan code (Init c begun ∷ ls) = record { asks = super_of c; next = Nee
 
 -- thread 0 asks for the main class and calls `main`
 abbrev pub entry_plan : Who → Plan
-entry_plan who = if who.first then asking MAIN_CLASS (calls who MAIN_METHOD (Ref ARGUMENTS ∷ [])) else plain Stuck
+entry_plan who =
+    if who.first then asking main_class (calls who main_method (Ref arguments ∷ []))
+    else plain Stuck
 
 -- of a thread that neither waits nor has ended
 unfoldable pub plan : ThinCode → Who → Mode → List Level → Plan

@@ -7,7 +7,8 @@ use Rattle.one_machine.specs.declared.state.MonitorState.{MonitorState}
 use Rattle.one_machine.specs.declared.state.ClassState.{ClassState}
 use Rattle.one_machine.specs.State.{State, body_at, owner_at, waiters_of, is_ended}
 
--- fields, elements, lengths; objects, texts and exceptions made; locks; classes; threads; buffers; output
+-- fields, elements, lengths; objects, texts and exceptions made; locks; classes; threads; buffers;
+-- output
 pub data Request : Type 0 where
   Get : Name → ℕ → Request
   Put : Name → ℕ → Value → Request

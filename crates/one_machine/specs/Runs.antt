@@ -42,4 +42,6 @@ some_can code m t (th ∷ ths) = can_step code m t th || some_can code m (t + 1)
 
 -- all threads have ended; or one can step; or none can
 unfoldable pub end_of : ThinCode → State → End
-end_of code m = if list_all (λ th. is_ended th.mode) m.threads then AllEnded else (if some_can code m 0 m.threads then Going else Dead)
+end_of code m =
+    if list_all (λ th. is_ended th.mode) m.threads then AllEnded
+    else (if some_can code m 0 m.threads then Going else Dead)

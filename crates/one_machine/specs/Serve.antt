@@ -11,6 +11,7 @@ use Rattle.jvm_base.specs.declared.value.ObjectBody.{ObjectBody}
 use Rattle.jvm_base.specs.declared.value.ObjectBody.TheVariants.{Fields}
 use Rattle.one_machine.specs.declared.state.Choice.{Choice}
 use Rattle.one_machine.specs.declared.state.ClassState.TheVariants as class_state
+use Rattle.one_machine.specs.Numbers.{no_node}
 use Rattle.one_machine.specs.State.{Heap, body_at}
 use Rattle.one_machine.specs.Requests.{Request, Get, Begin, InitDone, Finish, Print, Cell, Body, Class, Threads, Console}
 use Rattle.one_machine.specs.Changes.{Place, FieldOf, Held, One, Change, Becomes, Lost, Printed, Gives, Deed}
@@ -19,7 +20,8 @@ use Rattle.one_machine.specs.Changes.{Place, FieldOf, Held, One, Change, Becomes
 
 -- nothing happens but the answer
 abbrev pub quiet : Option Value → Deed
-quiet v = record { makes = []; waiters = []; reads = []; locks = []; changes = []; answer = Gives v }
+quiet v =
+    record { makes = []; waiters = []; reads = []; locks = []; changes = []; answer = Gives v }
 
 -- a place is read
 abbrev pub reading : Place → Held → Option Value → Deed
@@ -33,7 +35,8 @@ changing cs v = record (quiet v) { changes = cs }
 
 -- a field that isn't there isn't read
 abbrev pub get : Name → ℕ → Option ObjectBody → Option Deed
-get n i (Some (Fields vs)) = from None (λ v. Some (reading (FieldOf n i) (One v) (Some v))) (slice_get vs i)
+get n i (Some (Fields vs)) =
+    from None (λ v. Some (reading (FieldOf n i) (One v) (Some v))) (slice_get vs i)
 get n i _ = None
 
 -- a thread ends, with the exception that it raised, if any
@@ -72,9 +75,14 @@ pick_fits pick (w ∷ ws) = list_any (λ t. t == pick) (w ∷ ws)
 -- objects of these classes can be made, with indices from this one on
 abbrev pub all_new : Heap → ℕ → ℕ → List ℕ → Bool
 all_new heap node index [] = true
-all_new heap node index (c ∷ cs) = is_none (body_at heap (named node c index)) && all_new heap node (index + 1) cs
+all_new heap node index (c ∷ cs) =
+    is_none (body_at heap (named node c index)) && all_new heap node (index + 1) cs
 
--- names of made objects follow one another from the choice's; they are new, and of a node of the run
+-- names of made objects follow one another from the choice's; they are new, and of a node of the
+-- run
 abbrev pub name_fits : Heap → Name → List ℕ → Bool
 name_fits heap name [] = name_eq name no_name
-name_fits heap name (c ∷ cs) = not (name.node == 255) && (name.class == c && (nat_le (name.index + (1 + length cs)) (2 ^ 32) && all_new heap name.node name.index (c ∷ cs)))
+name_fits heap name (c ∷ cs) =
+    not (name.node == no_node) && (name.class == c
+    && (nat_le (name.index + (1 + length cs)) (2 ^ 32)
+    && all_new heap name.node name.index (c ∷ cs)))

@@ -11,13 +11,13 @@ use Rattle.thin_file.specs.declared.kinds.Kind.{Kind}
 use Rattle.thin_file.specs.declared.kinds.Kind.TheVariants.{Whole, Console}
 use Rattle.thin_file.specs.declared.thin.ThinCode.{ThinCode}
 use Rattle.thin_file.specs.Thin.{is_walk}
-use Rattle.one_machine.specs.declared.program.TheConstants.{MAIN_CLASS, MAIN_METHOD, MAIN_THREAD}
+use Rattle.one_machine.specs.Numbers.{main_class, main_method, main_thread}
 use Rattle.one_machine.specs.declared.state.ThreadState.{ThreadState}
 use Rattle.one_machine.specs.declared.state.ClassState.{ClassState}
 use Rattle.one_machine.specs.declared.state.ClassState.TheVariants as class_state
 use Rattle.one_machine.specs.declared.state.Mode.{Mode}
 use Rattle.one_machine.specs.declared.state.Mode.TheVariants.{Entry, Running, Ended}
-use Rattle.one_machine.specs.Program.{class_count}
+use Rattle.one_machine.specs.Numbers.{class_count}
 use Rattle.one_machine.specs.State.{State}
 use Rattle.one_machine.specs.Start.{start_heap, first_states}
 
@@ -32,7 +32,14 @@ pub data Stage : Type 0 where
 
 -- the frame of `main`
 abbrev pub main_frame : ThinCode → ℕ → List Value → List Value → Frame
-main_frame code at locals values = record { method = MAIN_METHOD; at = at; phase = phase.Body; lock = None; locals = locals; stack = record { values = values; room = code.max_stack } }
+main_frame code at locals values = record {
+  method = main_method;
+  at = at;
+  phase = phase.Body;
+  lock = None;
+  locals = locals;
+  stack = record { values = values; room = code.max_stack };
+}
 
 -- the mode of thread 0
 abbrev pub mode_at : Stage → Mode
@@ -46,7 +53,7 @@ mode_at Over = Ended
 -- the levels of thread 0
 abbrev pub levels_at : ThinCode → Stage → List Level
 levels_at code Untouched = []
-levels_at code Initialising = Init MAIN_CLASS false ∷ []
+levels_at code Initialising = Init main_class false ∷ []
 levels_at code Ready = []
 levels_at code (At i ls vs) = Code (main_frame code i ls vs) ∷ []
 levels_at code Returned = []
@@ -63,11 +70,16 @@ class_at Over = class_state.Done
 
 -- thread 0 after so many steps
 abbrev pub thread_at : ThinCode → Stage → ℕ → ThreadState
-thread_at code stage steps = record { object = MAIN_THREAD; mode = mode_at stage; levels = levels_at code stage; steps = steps }
+thread_at code stage steps = record {
+  object = main_thread;
+  mode = mode_at stage;
+  levels = levels_at code stage;
+  steps = steps;
+}
 
 -- the states of all classes
 abbrev pub classes_at : Stage → List ClassState
-classes_at stage = slice_set (first_states 0 class_count) MAIN_CLASS (class_at stage)
+classes_at stage = slice_set (first_states 0 class_count) main_class (class_at stage)
 
 -- the state after so many steps, with this output
 abbrev pub state_at : ThinCode → Stage → ℕ → List ℕ → State

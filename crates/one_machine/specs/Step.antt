@@ -20,6 +20,7 @@ use Rattle.one_machine.specs.declared.state.Mode.{Mode}
 use Rattle.one_machine.specs.declared.state.Mode.TheVariants.{Running, Raising, Waiting, Ended}
 use Rattle.one_machine.specs.declared.state.Reason.{Reason}
 use Rattle.one_machine.specs.declared.state.Reason.TheVariants.{NoThread, Over, Blocked, BadPick, BadName}
+use Rattle.one_machine.specs.Numbers.{no_class_found}
 use Rattle.one_machine.specs.State.{State, Heap, body_at, is_ended}
 use Rattle.one_machine.specs.Requests.{Request, Begin, Fault, key_of, cell}
 use Rattle.one_machine.specs.Changes.{Deed, changed}
@@ -42,17 +43,30 @@ text_in _ = None
 
 -- what a step may know of its thread and of texts
 abbrev pub who : Heap → ℕ → ThreadState → Who
-who heap t th = record { first = t == 0; object = th.object; depth = frames th.levels; known = λ n. text_in (body_at heap n) }
+who heap t th = record {
+  first = t == 0;
+  object = th.object;
+  depth = frames th.levels;
+  known = λ n. text_in (body_at heap n);
+}
 
 -- ---- a frame for a call: the arguments, then locals that hold Int(0)
 
--- the frame of a call of this method with these arguments, of which `main` has one
+-- the locals of a call with these arguments, of which `main` has one
+abbrev pub call_locals : ThinCode → List Value → List Value
+call_locals code [] = replicate code.max_locals (Int (pos 0))
+call_locals code (v ∷ vs) = v ∷ replicate (code.max_locals - 1) (Int (pos 0))
+
+-- the frame of a call of this method with these arguments
 abbrev pub new_frame : ThinCode → ℕ → List Value → Frame
-new_frame code m vs = record { method = m; at = 0; phase = phase.Body; lock = None; locals = args vs; stack = record { values = []; room = code.max_stack } }
-  where
-    args : List Value → List Value
-    args [] = replicate code.max_locals (Int (pos 0))
-    args (v ∷ vs) = v ∷ replicate (code.max_locals - 1) (Int (pos 0))
+new_frame code m vs = record {
+  method = m;
+  at = 0;
+  phase = phase.Body;
+  lock = None;
+  locals = call_locals code vs;
+  stack = record { values = []; room = code.max_stack };
+}
 
 -- ---- the deed of a step and the thread after it
 
@@ -71,7 +85,8 @@ taken code r mode ls d = record { deed = d; stand = complete code r d.answer mod
 
 -- a request is served at its cell, or isn't enabled
 unfoldable pub served : ThinCode → State → Choice → Mode → List Level → Request → Option Taken
-served code m c mode ls r = from None (λ d. Some (taken code r mode ls d)) (serve c.thread c r (cell m (key_of r)))
+served code m c mode ls r =
+    from None (λ d. Some (taken code r mode ls d)) (serve c.thread c r (cell m (key_of r)))
 
 -- what comes next is done
 abbrev pub performed : ThinCode → State → Choice → Mode → List Level → Next → Option Taken
@@ -85,23 +100,29 @@ performed code m c mode ls (Wants n) = None
 performed code m c mode ls Stuck = None
 
 -- a class that was asked for: done or begun by this thread, the step goes on; untouched, its
--- initialisation begins; failed, NoClassDefFoundError (class 27) is raised; begun by another, it waits
-abbrev pub asked : ThinCode → State → Choice → Mode → List Level → Next → ℕ → Option ClassState → Option Taken
+-- initialisation begins; failed, NoClassDefFoundError is raised; begun by another, it waits
+abbrev pub asked :
+    ThinCode → State → Choice → Mode → List Level → Next → ℕ → Option ClassState → Option Taken
 asked code m c mode ls next k None = None
 asked code m c mode ls next k (Some class_state.Done) = performed code m c mode ls next
-asked code m c mode ls next k (Some (class_state.Running u)) = if u == c.thread then performed code m c mode ls next else None
+asked code m c mode ls next k (Some (class_state.Running u)) =
+    if u == c.thread then performed code m c mode ls next else None
 asked code m c mode ls next k (Some class_state.Untouched) = served code m c mode ls (Begin k)
-asked code m c mode ls next k (Some class_state.Failed) = served code m c mode ls (Fault 27)
+asked code m c mode ls next k (Some class_state.Failed) =
+    served code m c mode ls (Fault no_class_found)
 
 -- first the class that is asked for, then what comes next
 abbrev pub planned : ThinCode → State → Choice → Mode → List Level → Plan → Option Taken
-planned code m c mode ls p = from (performed code m c mode ls p.next) (λ k. asked code m c mode ls p.next k (slice_get m.classes k)) p.asks
+planned code m c mode ls p =
+    from (performed code m c mode ls p.next)
+    (λ k. asked code m c mode ls p.next k (slice_get m.classes k)) p.asks
 
 -- no thread of a thin program waits
 abbrev pub by_mode : ThinCode → State → Choice → ThreadState → Mode → Option Taken
 by_mode code m c th (Waiting n k) = None
 by_mode code m c th Ended = None
-by_mode code m c th mode = planned code m c mode th.levels (plan code (who m.heap c.thread th) mode th.levels)
+by_mode code m c th mode =
+    planned code m c mode th.levels (plan code (who m.heap c.thread th) mode th.levels)
 
 -- what a thread's next step does, whatever the choice's pick and name are worth
 unfoldable pub attempt : ThinCode → State → Choice → ThreadState → Option Taken
@@ -115,7 +136,8 @@ after th s = record { object = th.object; mode = s.0; levels = s.1; steps = th.s
 
 -- the state after a step
 unfoldable pub moved_on : State → ℕ → ThreadState → Taken → State
-moved_on m t th k = changed k.deed.changes (record m { threads = slice_set m.threads t (after th k.stand) })
+moved_on m t th k =
+    changed k.deed.changes (record m { threads = slice_set m.threads t (after th k.stand) })
 
 -- the choice's pick and name are what the deed demands
 abbrev pub allowed : State → Choice → Taken → Bool
@@ -129,7 +151,8 @@ granted m c (Some k) = if allowed m c k then Some k else None
 -- the state after a step of a thread, if there is such a thread
 abbrev pub step_of : ThinCode → State → Choice → Option ThreadState → Option State
 step_of code m c None = None
-step_of code m c (Some th) = from None (λ k. Some (moved_on m c.thread th k)) (granted m c (attempt code m c th))
+step_of code m c (Some th) =
+    from None (λ k. Some (moved_on m c.thread th k)) (granted m c (attempt code m c th))
 
 -- the next state, or none where the choice isn't enabled
 unfoldable pub step : ThinCode → State → Choice → Option State
@@ -140,12 +163,15 @@ step code m c = step_of code m c (slice_get m.threads c.thread)
 -- nothing can be done, or the pick is wrong, or the name
 abbrev pub reason_taken : State → Choice → Option Taken → Option Reason
 reason_taken m c None = Some Blocked
-reason_taken m c (Some k) = if not (pick_fits c.pick k.deed.waiters) then Some BadPick else (if not (name_fits m.heap c.name k.deed.makes) then Some BadName else None)
+reason_taken m c (Some k) =
+    if not (pick_fits c.pick k.deed.waiters) then Some BadPick
+    else (if not (name_fits m.heap c.name k.deed.makes) then Some BadName else None)
 
 -- there is no such thread, or it has ended
 abbrev pub reason_thread : ThinCode → State → Choice → Option ThreadState → Option Reason
 reason_thread code m c None = Some NoThread
-reason_thread code m c (Some th) = if is_ended th.mode then Some Over else reason_taken m c (attempt code m c th)
+reason_thread code m c (Some th) =
+    if is_ended th.mode then Some Over else reason_taken m c (attempt code m c th)
 
 -- the reason against a choice, if there is one
 unfoldable pub reason : ThinCode → State → Choice → Option Reason

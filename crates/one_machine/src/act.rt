@@ -2,7 +2,7 @@
 
 ghost use Rattle.std.specs.Prelude.{◌≡◌, Some};
 ghost use Rattle.thin_file.specs.Thin.{IsThinCode};
-ghost use Rattle.one_machine.specs.Acts.{arith, op_act, level_act, thread_act, entry_act};
+ghost use Rattle.one_machine.specs.Acts.{arith, op_act, level_act, act_in, entry_act};
 ghost use Rattle.std.specs.Option.{option_copied};
 
 use crate::program::STREAM;
@@ -11,9 +11,9 @@ use jvm_base::{Level, Value};
 use thin_file::{ThinCode, ThinOp};
 
 /// What the thread of a thin program does next: it begins to initialise the program's class, ends
-/// that, calls `main`, answers an instruction, prints a number, leaves `main`, or ends. `Stuck` comes
-/// of no state that a run meets.
-#[derive(Clone, Copy, Debug, PartialEq, Eq)]
+/// that, calls `main`, answers an instruction, prints a number, leaves `main`, or ends. `Stuck`
+/// comes of no state that a run meets.
+#[derive(Clone, Copy, PartialEq, Eq)]
 pub(crate) enum Act {
     Begin,
     Initialised,
@@ -102,7 +102,7 @@ fn entry_act(class: Option<&ClassState>) -> Act
 /// What the thread does next, where the program's class stands so.
 pub(crate) fn thread_act(code: &ThinCode, class: Option<&ClassState>, thread: &ThreadState) -> Act
     requires { IsThinCode code.now }
-    ensures { result ≡ thread_act code.now (option_copied class.entry) thread.now.mode thread.now.levels }
+    ensures { result ≡ act_in code.now (option_copied class.entry) thread.now }
 {
     match (thread.mode, thread.levels.top()) {
         (Mode::Entry, _) => entry_act(class),

@@ -9,7 +9,10 @@ mod program;
 mod state;
 mod thread;
 
-pub use laws::{first_program_runs, step_or_reason};
+pub use laws::{
+    constants_are_defined, first_file_is_thin, first_program_runs, never_dead, step_or_reason,
+    takes_four_more,
+};
 pub use machine::Machine;
 pub use order::Order;
 pub use program::{ARGUMENTS, MAIN_CLASS, MAIN_METHOD, MAIN_THREAD, NO_NAME, STREAM, SYSTEM};

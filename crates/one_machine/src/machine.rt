@@ -1,19 +1,20 @@
 //! The machine.
 
-ghost use Rattle.std.specs.Prelude.{◌≡◌, ◌<◌, ◌≤◌, ◌+◌, ◌^◌, [], ◌∷◌, ◌++◌, Some, None, length, slice_get, slice_set, string_bytes, OnOk, OnErr, IfOk, IfErr, MatchResult};
+ghost use Rattle.std.specs.Prelude.{◌≡◌, ◌<◌, Some, None, length, string_bytes};
+ghost use Rattle.std.specs.Prelude.{OnOk, OnErr, IfOk, IfErr};
 ghost use Rattle.thin_file.specs.Thin.{IsThinCode};
-ghost use Rattle.one_machine.specs.Program.{class_count};
+ghost use Rattle.one_machine.specs.Numbers.{class_count, main_class};
 ghost use Rattle.one_machine.specs.Start.{start, first_states};
 ghost use Rattle.one_machine.specs.Step.{step, reason};
 ghost use Rattle.one_machine.specs.Runs.{any_choice, end_of};
 ghost use Rattle.one_machine.specs.Refusals.{Explains, refusal_of, end_at};
 ghost use Rattle.std.specs.Option.{option_copied};
-ghost use Rattle.one_machine.specs.Sound.{IsSound, main_frame};
-ghost use Rattle.std.specs.Fmt.{signed_decimal};
-ghost use Rattle.jvm_base.specs.Tops.{below, top_answered};
+ghost use Rattle.one_machine.specs.Sound.{IsSound};
+ghost use Rattle.one_machine.specs.Next.{number_line};
 ghost use Rattle.one_machine.specs.Serve.{printed};
-ghost use Rattle.one_machine.specs.declared.state.Mode.TheVariants.{Running};
-ghost use Rattle.one_machine.specs.Acts.{act_of, acted, stepped, with_thread, with_class, begun, first_locals, HasThread, TakesFrom, CanAct, IsGoing, Grows};
+ghost use Rattle.one_machine.specs.Acts.{act_of, state_after, with_level, without_level, with_answer};
+ghost use Rattle.one_machine.specs.Acts.{with_end, with_line, with_class, begun, first_frame};
+ghost use Rattle.one_machine.specs.Acts.{HasThread, TakesFrom, CanAct, IsGoing, Grows};
 
 use crate::act::{Act, thread_act};
 use crate::program::{ARGUMENTS, MAIN_CLASS, MAIN_METHOD, MAIN_THREAD, NO_NAME};
@@ -24,8 +25,8 @@ use std::cmp::Ordering;
 use std::marker::Model;
 use thin_file::ThinCode;
 
-/// The state of the one machine. No step of a thin program changes the heap, enters a lock or waits,
-/// so these parts are not stored.
+/// The state of the one machine. No step of a thin program changes the heap, enters a lock or
+/// waits, so these parts are not stored.
 #[derive(Drop)]
 pub struct Machine {
     alloc: Global,
@@ -36,13 +37,12 @@ pub struct Machine {
 }
 
 impl Model for Machine {
-    ghost use Rattle.std.specs.Prelude.{[]};
     ghost use Rattle.one_machine.specs.State.{State};
-    ghost use Rattle.one_machine.specs.Start.{start_heap};
+    ghost use Rattle.one_machine.specs.Start.{seen};
 
     ghost Value = { State };
 
-    ghost view = { λ a. record { heap = start_heap; threads = a.threads; monitors = []; waiting = []; classes = a.classes; output = a.output; uncaught = a.uncaught } };
+    ghost view = { λ a. seen a.threads a.classes a.output a.uncaught };
 }
 
 impl Machine {
@@ -104,7 +104,8 @@ impl Machine {
     pub fn end_of(&self, code: &ThinCode) -> End
         requires code { IsThinCode code.now }
         requires sound { IsSound code.now self.now }
-        ensures { result ≡ end_of code.now self.now }
+        ensures end { result ≡ end_of code.now self.now }
+        ensures alive { ¬ (result ≡ End.Dead) }
     {
         let _ = code;
         end(self.threads.get(0))
@@ -137,7 +138,7 @@ impl Machine {
 
     fn push(&mut self, level: Level) -> Result<(), NoMemory>
         requires { HasThread self.old }
-        ensures ok { OnOk result (self.new ≡ with_thread (λ th. stepped Running (level ∷ th.levels) th) self.old) }
+        ensures ok { OnOk result (self.new ≡ with_level level self.old) }
         ensures err { OnErr result (self.new ≡ self.old) }
     {
         match self.threads.get_mut(0) {
@@ -148,7 +149,7 @@ impl Machine {
 
     fn pop(&mut self, mode: Mode)
         requires { HasThread self.old }
-        ensures { self.new ≡ with_thread (λ th. stepped mode (below th.levels) th) self.old }
+        ensures { self.new ≡ without_level mode self.old }
     {
         match self.threads.get_mut(0) {
             Some(thread) => thread.pop(mode),
@@ -159,7 +160,7 @@ impl Machine {
     fn answer(&mut self, next: u32, takes: u32, value: Option<Value>)
         requires thread { HasThread self.old }
         requires enough { TakesFrom takes self.old }
-        ensures { self.new ≡ with_thread (λ th. stepped Running (top_answered next takes value th.levels) th) self.old }
+        ensures { self.new ≡ with_answer next takes value self.old }
     {
         match self.threads.get_mut(0) {
             Some(thread) => thread.answer(next, takes, value),
@@ -169,7 +170,7 @@ impl Machine {
 
     fn end(&mut self)
         requires { HasThread self.old }
-        ensures { self.new ≡ with_thread (λ th. stepped Mode.Ended th.levels th) self.old }
+        ensures { self.new ≡ with_end self.old }
     {
         match self.threads.get_mut(0) {
             Some(thread) => thread.end(),
@@ -178,14 +179,14 @@ impl Machine {
     }
 
     fn set_class(&mut self, class: ClassState)
-        requires { MAIN_CLASS < length self.old.classes }
+        requires { main_class < length self.old.classes }
         ensures { self.new ≡ with_class class self.old }
     {
         self.classes.set(MAIN_CLASS as usize, class);
     }
 
     fn print(&mut self, number: i32) -> Result<(), NoMemory>
-        ensures ok { OnOk result (self.new ≡ record self.old { output = self.old.output ++ printed (signed_decimal number ++ 10 ∷ []) }) }
+        ensures ok { OnOk result (self.new ≡ with_line number self.old) }
         ensures err { OnErr result (self.new ≡ self.old) }
     {
         let line = number_line(self.alloc, number)?;
@@ -196,7 +197,7 @@ impl Machine {
     fn apply(&mut self, code: &ThinCode, act: Act) -> Result<(), NoMemory>
         requires code { IsThinCode code.now }
         requires can { CanAct act self.old }
-        ensures ok { OnOk result (self.new ≡ acted code.now act self.old) }
+        ensures ok { OnOk result (self.new ≡ state_after code.now act self.old) }
         ensures err { OnErr result (self.new ≡ self.old) }
     {
         match act {
@@ -233,7 +234,7 @@ impl Machine {
 
     fn begin(&mut self) -> Result<(), NoMemory>
         requires thread { HasThread self.old }
-        requires class { MAIN_CLASS < length self.old.classes }
+        requires class { main_class < length self.old.classes }
         ensures ok { OnOk result (self.new ≡ begun self.old) }
         ensures err { OnErr result (self.new ≡ self.old) }
     {
@@ -276,7 +277,7 @@ fn first_classes(alloc: Global) -> Result<List<ClassState>, NoMemory>
 
 /// The bytes that `println(I)V` writes: the decimal text and LF.
 fn number_line(alloc: Global, number: i32) -> Result<String, NoMemory>
-    ensures { IfOk result (λ line. string_bytes line ≡ printed (signed_decimal number ++ 10 ∷ [])) }
+    ensures { IfOk result (λ line. string_bytes line ≡ printed (number_line number)) }
 {
     Ok(format!(in alloc; "{number}\n")?)
 }
@@ -284,7 +285,7 @@ fn number_line(alloc: Global, number: i32) -> Result<String, NoMemory>
 /// The frame of `main` before its first instruction: its argument, then locals of `Int(0)`.
 fn main_frame(alloc: Global, code: &ThinCode) -> Result<Frame, NoMemory>
     requires { IsThinCode code.now }
-    ensures { IfOk result (λ frame. frame ≡ main_frame code.now 0 (first_locals code.now) []) }
+    ensures { IfOk result (λ frame. frame ≡ first_frame code.now) }
 {
     let mut locals = List::new(alloc);
     locals.push(Value::Ref(ARGUMENTS))?;
@@ -328,6 +329,3 @@ fn end(thread: Option<&ThreadState>) -> End
         _ => End::Going,
     }
 }
-
-#[cfg(test)]
-mod tests;

@@ -1,6 +1,7 @@
 //! The parts of the machine's state, and what chooses a step.
 
 use jvm_base::{Levels, Name};
+use thiserror::Error;
 
 /// Which step is next: whose, which waiter a notify moves (0 where none is chosen), and the name of
 /// the first object that the step makes (0.0.0 where it makes none).
@@ -30,7 +31,7 @@ pub enum Mode {
     Ended,
 }
 
-/// A thread that waits on a lock and was not moved.
+/// A thread that waits on a lock and was not frame_moved.
 #[derive(Clone, Copy, Debug, PartialEq, Eq)]
 pub struct Waiter {
     pub lock: Name,
@@ -57,19 +58,26 @@ pub enum ClassState {
 
 /// Why a choice is no step: no such thread; it has ended; its next step isn't enabled; the pick is
 /// none of the waiters; the name isn't one that the step can give.
-#[derive(Clone, Copy, Debug, PartialEq, Eq)]
+#[derive(Clone, Copy, Debug, PartialEq, Eq, Error)]
 pub enum Reason {
+    #[error("no such thread")]
     NoThread,
+    #[error("the thread has ended")]
     Over,
+    #[error("its next step isn't enabled")]
     Blocked,
+    #[error("the pick is none of the waiters")]
     BadPick,
+    #[error("the name isn't one that the step can give")]
     BadName,
 }
 
 /// Why a step was not taken. The machine is then as before.
-#[derive(Clone, Copy, Debug, PartialEq, Eq)]
+#[derive(Clone, Copy, Debug, PartialEq, Eq, Error)]
 pub enum StepErr {
+    #[error("no step: {0}")]
     NotEnabled(Reason),
+    #[error("want of memory")]
     NoMemory,
 }
 

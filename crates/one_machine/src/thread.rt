@@ -1,9 +1,9 @@
 //! A thread as its steps change it.
 
 ghost use Rattle.std.specs.Prelude.{◌≡◌, ◌+◌, ◌<◌, ◌^◌, ◌∷◌, None, OnOk, OnErr};
-ghost use Rattle.jvm_base.specs.Tops.{below, TopTakes, top_answered};
+ghost use Rattle.jvm_base.specs.Tops.{below, TopTakes};
 ghost use Rattle.one_machine.specs.declared.state.Mode.TheVariants.{Running};
-ghost use Rattle.one_machine.specs.Acts.{stepped, CanCount};
+ghost use Rattle.one_machine.specs.Acts.{stepped, thread_answered, CanCount};
 
 use crate::state::{Mode, ThreadState};
 use jvm_base::{Level, NoMemory, Value};
@@ -35,7 +35,7 @@ impl ThreadState {
     pub(crate) fn answer(&mut self, next: u32, takes: u32, value: Option<Value>)
         requires count { CanCount self.old }
         requires enough { TopTakes takes self.old.levels }
-        ensures { self.new ≡ stepped Running (top_answered next takes value self.old.levels) self.old }
+        ensures { self.new ≡ thread_answered next takes value self.old }
     {
         self.levels.answer(next, takes, value);
         self.mode = Mode::Running;

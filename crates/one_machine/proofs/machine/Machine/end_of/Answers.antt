@@ -5,8 +5,8 @@ use Rattle.one_machine.specs.Refusals.{end_at}
 use Rattle.one_machine.proofs.Reasons.{end_is}
 use Rattle.one_machine.proofs.machine.Machine.end_of.Goals as goal
 
-pub returns : goal.returns
-returns c =
+pub returns-clause-end : goal.returns-clause-end
+returns-clause-end c =
     c.end.ensures
     ∙ ap end_at (c.get.ensures ∙ ap (λ (m : State). slice_get m.threads 0) c.self.view_is)
     ∙ sym (end_is c.args.code.now c.args.self.now c.requires.code c.requires.sound)

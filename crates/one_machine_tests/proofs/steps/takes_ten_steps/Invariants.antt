@@ -1,5 +1,5 @@
 use Rattle.one_machine.specs.Sound.{IsSound}
-use Rattle.one_machine.proofs.machine.tests.takes_ten_steps.Given as goal
+use Rattle.one_machine_tests.proofs.steps.takes_ten_steps.Given as goal
 
 abbrev pub invariant-loop-choice : goal.invariant-loop-choice
 invariant-loop-choice g l = IsSound l.code l.machine
