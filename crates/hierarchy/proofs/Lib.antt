@@ -1,0 +1,11 @@
+pub mod ClosureLaws
+pub mod Filling
+pub mod Items
+pub mod LoopLaws
+pub mod Reach
+pub mod SearchSteps
+pub mod Tests
+pub mod Under
+pub mod Visiting
+pub mod Visits
+pub mod WalkLaws

@@ -1,0 +1,9 @@
+use Rattle.std.proofs.Common.{slice_index}
+use Rattle.hierarchy.proofs.Filling.{Filling}
+use Rattle.hierarchy.proofs.walk_table.+fill.Given as goal
+
+abbrev pub decreases-fill : goal.decreases-fill
+decreases-fill l = slice_index l.ranks.now l.c
+
+abbrev pub invariant-loop-k : goal.invariant-loop-k
+invariant-loop-k l = Filling l.rows l.c l.k-items l.initial.table l.table l.all l.k-index

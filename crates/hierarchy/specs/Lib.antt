@@ -1,0 +1,5 @@
+pub mod Closure
+pub mod Hierarchy
+pub mod Loops
+pub mod Steps
+pub mod Walks

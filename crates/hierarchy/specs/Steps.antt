@@ -1,0 +1,4 @@
+-- What the loops keep: no promise of a public call rests on these.
+pub mod Filled
+pub mod Marks
+pub mod Search
