@@ -5,9 +5,10 @@ ghost use Rattle.jvm_base.specs.Descriptors.{desc_slots, args_slots};
 
 use crate::list::List;
 use crate::units::Units;
+use std::hash::{Hash, Hasher};
 
 /// What a field's descriptor is of, below its array dimensions (JVMS2 4.3.2).
-#[derive(Drop)]
+#[derive(Drop, PartialEq, Eq, Hash)]
 pub enum Elem {
     Byte,
     Char,
@@ -21,7 +22,7 @@ pub enum Elem {
 }
 
 /// The type of a field: an element type under 0 to 255 array dimensions.
-#[derive(Drop)]
+#[derive(Drop, PartialEq, Eq, Hash)]
 pub struct Desc {
     pub dims: u8,
     pub elem: Elem,
@@ -41,7 +42,7 @@ impl Desc {
 }
 
 /// The type of a method (JVMS2 4.3.3); `ret` is `None` for `V`.
-#[derive(Drop)]
+#[derive(Drop, PartialEq, Eq, Hash)]
 pub struct MethodDesc {
     pub args: List<Desc>,
     pub ret: Option<Desc>,
