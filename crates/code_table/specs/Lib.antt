@@ -6,6 +6,7 @@ pub mod Items
 pub mod Members
 pub mod Numbers
 pub mod Opcodes
+pub mod Reasons
 pub mod Results
 pub mod Sequences
 pub mod Switches
