@@ -8,10 +8,12 @@ use Rattle.std.proofs.lemmas.List.Folds.{list_any-append}
 use Rattle.code_table.specs.declared.code.Placed.{Placed}
 use Rattle.code_table.specs.Targets.{is_start, flag_at}
 
+-- a flag that is set
 or_true : (b : Bool) → (b || (true || false)) ≡ true
 or_true true = refl
 or_true false = refl
 
+-- a flag that stays
 or_false : (b : Bool) → (b || (false || false)) ≡ b
 or_false true = refl
 or_false false = refl
@@ -21,12 +23,14 @@ pub record Marks (flags : List Bool) (ops : List Placed) (len : ℕ) : Type 0 wh
   pub size : length flags ≡ len
   pub here : (at : ℕ) → flag_at flags at ≡ is_start ops at
 
+-- no flag is set at first
 none_at : (len at : ℕ) → get_or (replicate len false) at false ≡ false
 none_at len at = elim (cases_lt at len) [
   | inl below ↦ get_or-replicate len at false false below
   | inr above ↦ get_or_past (replicate len false) at false (omega (arith, length-replicate {A = Bool}))
 ]
 
+-- flags of no instructions
 pub none_marked : (len : ℕ) → Marks (replicate len false) [] len
 unfolding flag_at is_start
 none_marked len = record { size = length-replicate len false; here = λ at. none_at len at }
@@ -39,6 +43,7 @@ one_set flags ops p at within same = elim (cases_Bool (p.at == at)) [
   | inr other ↦ let d : at ≢ p.at = grind (arith, nat_tests) in rw other (get_or-set_other flags p.at at true false d ∙ same ∙ sym (or_false (is_start ops at)))
 ]
 
+-- flags of one instruction more
 pub one_marked : (flags : List Bool) (ops : List Placed) (len : ℕ) (p : Placed) → p.at < len → Marks flags ops len → Marks (set flags p.at true) (ops ++ p ∷ []) len
 unfolding is_start
 one_marked flags ops len p within h = record {
@@ -46,5 +51,6 @@ one_marked flags ops len p within h = record {
   here = λ at. one_set flags ops p at (let e = h.size in omega arith) (h.here at) ∙ sym (list_any-append (λ (q : Placed). q.at == at) ops (p ∷ []));
 }
 
+-- flags of all instructions
 pub all_marked : (flags : List Bool) (ops : List Placed) (len : ℕ) → Marks flags ops len → flag_at flags ≡ is_start ops
 all_marked flags ops len h = fun_ext h.here

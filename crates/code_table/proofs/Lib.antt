@@ -2,7 +2,7 @@ pub mod Acceptance
 pub mod Firsts
 pub mod Flags
 pub mod ReadAt
-pub mod Refusals
+pub mod Rows
 pub mod Sequencing
 pub mod SwitchLoops
 pub mod Targeting

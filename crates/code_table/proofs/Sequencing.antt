@@ -8,7 +8,7 @@ use Rattle.std.proofs.lemmas.Bool.Decides.{nat_tests}
 use Rattle.jvm_base.specs.declared.pool.PoolItem.{PoolItem}
 use Rattle.code_table.specs.declared.error.CodeErr.{CodeErr}
 use Rattle.code_table.specs.declared.code.Placed.{Placed}
-use Rattle.code_table.specs.Results.{◌>>=◌}
+use Rattle.jvm_base.specs.Refusing.{◌>>=◌}
 use Rattle.code_table.specs.Instructions.{instruction_at}
 use Rattle.code_table.specs.Sequences.{Leads, Covers, instructions_from, instructions_of}
 use Rattle.code_table.specs.Accepted.{Stops}
@@ -20,22 +20,27 @@ module _ (code : List ℕ) (pool : List PoolItem) where
   rest_of : ℕ → Placed → Result (List Placed) CodeErr
   rest_of most p = instructions_from most code pool p.next >>= λ ps. Ok (p ∷ ps)
 
+  -- within the code one instruction is looked for, then the rest
   inside : (most at : ℕ) → at < length code → instructions_from (suc most) code pool at ≡ (instruction_at code pool at >>= rest_of most)
   unfolding instructions_from rest_of
   inside most at below = let t : nat_lt at (length code) ≡ true = grind (arith, nat_tests) in rw t refl
 
+  -- past the code there is none
   outside : (most at : ℕ) → length code ≤ at → instructions_from most code pool at ≡ Ok []
   unfolding instructions_from
   outside zero at above = refl
   outside (suc most) at above = let t : nat_lt at (length code) ≡ false = grind (arith, nat_tests) in rw t refl
 
+  -- none where there may be none
   none_left : (at : ℕ) → instructions_from zero code pool at ≡ Ok []
   unfolding instructions_from
   none_left at = refl
 
+  -- an address lies within the code or past it
   below_or_not : (at : ℕ) → (at < length code) ⊎ (length code ≤ at)
   below_or_not at = elim (cases_Bool (nat_lt at (length code))) [ inl t ↦ inl (grind (arith, nat_tests)) | inr f ↦ inr (grind (arith, nat_tests)) ]
 
+  -- what is computed from an address on leads to the end
   covers : (most at : ℕ) (ps : List Placed) → length code ≤ at + most → at ≤ length code → instructions_from most code pool at ≡ Ok ps → Leads code pool at ps (length code)
   unfolding rest_of
   covers zero at ps enough within h =
@@ -55,6 +60,7 @@ module _ (code : List ℕ) (pool : List PoolItem) where
         rw e (omega arith)
   ]
 
+  -- what leads to the end is what is computed
   covered : (ps : List Placed) (most at : ℕ) → length code ≤ at + most → Leads code pool at ps (length code) → instructions_from most code pool at ≡ Ok ps
   unfolding rest_of
   covered [] most at enough h = outside most at (omega arith)
@@ -65,6 +71,7 @@ module _ (code : List ℕ) (pool : List PoolItem) where
       let within = w.within in
       inside most at (omega arith) ∙ rw (h.0, covered ps most p.next (omega arith) h.1) refl
 
+  -- a computed refusal is where the instructions stop
   stops : (most at : ℕ) (e : CodeErr) → instructions_from most code pool at ≡ Err e → Stops code pool at e
   unfolding rest_of
   stops zero at e h = absurd (let z : instructions_from zero code pool at ≡ Ok [] = none_left at in cc)
@@ -81,6 +88,7 @@ module _ (code : List ℕ) (pool : List PoolItem) where
     | inr above ↦ absurd (let z = outside (suc most) at above in cc)
   ]
 
+  -- where they stop is the computed refusal
   stopped : (before : List Placed) (most from at : ℕ) (e : CodeErr) → length code ≤ from + most → Leads code pool from before at → at < length code → instruction_at code pool at ≡ Err e
       → instructions_from most code pool from ≡ Err e
   unfolding rest_of
@@ -94,22 +102,27 @@ module _ (code : List ℕ) (pool : List PoolItem) where
       let within = w.within in
       inside most from (omega arith) ∙ rw (h.0, stopped before most p.next at e (omega arith) h.1 below why) refl
 
+  -- the computed instructions cover the code
   pub all_cover : (ps : List Placed) → instructions_of code pool ≡ Ok ps → Covers code pool ps
   unfolding instructions_of
   all_cover ps h = covers (length code) 0 ps (omega arith) (omega arith) h
 
+  -- those that cover the code are computed
   pub cover_all : (ps : List Placed) → Covers code pool ps → instructions_of code pool ≡ Ok ps
   unfolding instructions_of
   cover_all ps h = covered ps (length code) 0 (omega arith) h
 
+  -- a computed refusal is where they stop
   pub stop_there : (e : CodeErr) → instructions_of code pool ≡ Err e → Stops code pool 0 e
   unfolding instructions_of
   stop_there e h = stops (length code) 0 e h
 
+  -- where they stop is the computed refusal
   pub there_stops : (e : CodeErr) → Stops code pool 0 e → instructions_of code pool ≡ Err e
   unfolding instructions_of
   there_stops e s = stopped s.before (length code) 0 s.at e (omega arith) s.leads s.below s.why
 
+  -- at most one list covers the code
   pub one_cover : (a b : List Placed) → Covers code pool a → Covers code pool b → a ≡ b
   one_cover a b ha hb = ok_is a b (sym (cover_all a ha) ∙ cover_all b hb)
 
@@ -123,6 +136,7 @@ module _ (code : List ℕ) (pool : List PoolItem) where
       let others = lie_behind ps p.next to h.1 in
       All-cons (λ (q : Placed). at ≤ q.at) p ps (omega arith) (λ k d below. let o = others k d below in omega arith)
 
+  -- the addresses rise
   pub rises : (ps : List Placed) (at to : ℕ) → Leads code pool at ps to → AllPairs (λ p q. p.at < q.at) ps
   rises [] at to h = λ i j d before below. absurd (omega arith)
   rises (p ∷ ps) at to h =

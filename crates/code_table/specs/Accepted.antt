@@ -1,4 +1,5 @@
--- Which decoded code is that of an item, and when there is none: facts on bytes and addresses, beside the computing word `decoded`.
+-- Which decoded code is that of an item, and when there is none: facts on bytes and addresses,
+-- beside the computing word `decoded`.
 use Rattle.std.specs.Prelude.{◌≡◌, ℕ, ◌<◌, ◌⊎◌, List, ◌∷◌, ◌++◌, length, Err, IsTrue, true, false}
 use Rattle.std.specs.List.{AllPass, AllByRecursion}
 use Rattle.jvm_base.specs.declared.pool.PoolItem.{PoolItem}
@@ -11,12 +12,15 @@ use Rattle.code_table.specs.declared.code.Code.{Code}
 use Rattle.code_table.specs.Instructions.{instruction_at}
 use Rattle.code_table.specs.Sequences.{Leads, Covers}
 use Rattle.code_table.specs.Targets.{targets_of, is_start, leads_off, is_bad_entry}
+use Rattle.jvm_base.specs.Told.{Tells}
+use Rattle.code_table.specs.Told.{told}
 
 -- each address that the instruction may jump to is that of an instruction
 abbrev pub Lands : List Placed → Placed → Type 0
 Lands ops p = AllPass (is_start ops) (targets_of p.op)
 
--- an entry of the exception table names instructions, and protects some; `last` may be the end of the code
+-- an entry of the exception table names instructions, and protects some; `last` may be the end of
+-- the code
 pub record IsEntry (ops : List Placed) (end : ℕ) (e : TableItem) : Type 0 where
   pub start : IsTrue (is_start ops e.start)
   pub last : IsTrue (is_start ops e.end) ⊎ (e.end ≡ end)
@@ -69,8 +73,7 @@ IsRefused item pool e = Stops item.code pool 0 e ⊎ (JumpsOff item pool e ⊎ H
 
 -- a refusal is due; want of memory may come at any time
 abbrev pub IsDue : CodeItem → List PoolItem → CodeErr → Type 0
-IsDue item pool NoMemory = Unit {0}
-IsDue item pool e = IsRefused item pool e
+IsDue item pool e = Tells told (IsRefused item pool) e
 
 -- a refusal of the instruction at an address, which names that address
 abbrev pub IsHere : ℕ → CodeErr → Type 0

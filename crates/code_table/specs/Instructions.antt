@@ -1,79 +1,57 @@
--- What instruction stands at an address of some code, or why none does: a function of the bytes, the pool and the address (JVMS2 6).
-use Rattle.std.specs.Prelude.{ℕ, ◌+◌, List, [], ◌∷◌, length, slice_range, Result, Ok, Err, Bool, not, ◌==◌, nat_le, nat_lt, if◌then◌else◌}
-use Rattle.std.specs.Int.{w8, w16, w32}
+-- What instruction stands at an address of some code, or why none does: a function of the bytes, the
+-- pool and the address (JVMS2 6).
+use Rattle.std.specs.Prelude.{ℕ, ◌+◌, List, length, slice_range, Result, Ok, Err, nat_le, nat_lt}
+use Rattle.std.specs.Int.{w8, w16}
 use Rattle.jvm_base.specs.declared.pool.PoolItem.{PoolItem}
 use Rattle.code_table.specs.declared.error.CodeErr.{CodeErr}
 use Rattle.code_table.specs.declared.error.CodeErr.TheVariants.{UnknownOp, LeftOutOp, CutOp}
 use Rattle.code_table.specs.declared.code.Placed.{Placed}
 use Rattle.code_table.specs.declared.op.Op.{Op}
-use Rattle.code_table.specs.declared.op.Op.TheVariants.{Load, Store, Iinc, IfNull, Goto, Return}
-use Rattle.code_table.specs.Numbers.{number_at, signed_at, target}
-use Rattle.code_table.specs.Results.{◌>>=◌, need}
-use Rattle.code_table.specs.Opcodes.{is_in_ranges, is_unknown, is_left_out, operand_bytes}
-use Rattle.code_table.specs.Fixed.{constant, pushed, load, store, computation, jump, object}
-use Rattle.code_table.specs.Members.{member}
+use Rattle.code_table.specs.Numbers.{number_at, signed_at}
+use Rattle.jvm_base.specs.Refusing.{◌>>=◌, need}
+use Rattle.code_table.specs.Forms.{Form, Local, LocalAndByte, TableSwitch, LookupSwitch, Wide, LeftOut, LeftOutLocal, Unknown, size, meaning}
+use Rattle.code_table.specs.Table.{form_at}
 use Rattle.code_table.specs.Switches.{table_switch_at, lookup_switch_at}
 
--- 198 to 200, of which the last has an offset of four bytes
-unfoldable pub last_jump : ℕ → List ℕ → ℕ → Op
-last_jump op operands at =
-    if nat_le op 199 then IfNull op (target at (signed_at w16 operands 0))
-    else Goto (target at (signed_at w32 operands 0))
-
--- an instruction whose opcode tells its length, by its opcode and operands
-unfoldable pub fixed : ℕ → List ℕ → List PoolItem → ℕ → Result Op CodeErr
-fixed op operands pool at =
-    if nat_le op 10 then Ok (constant op)
-    else (if nat_le op 20 then pushed op operands pool at
-    else (if nat_le op 53 then Ok (load op operands)
-    else (if nat_le op 86 then Ok (store op operands)
-    else (if nat_le op 148 then Ok (computation op operands)
-    else (if nat_le op 167 then Ok (jump op (target at (signed_at w16 operands 0)))
-    else (if nat_le op 177 then Ok (Return op)
-    else (if nat_le op 185 then member op operands pool at
-    else (if nat_le op 197 then object op operands pool at
-    else Ok (last_jump op operands at)))))))))
-
 -- an instruction whose opcode tells its length
-unfoldable pub fixed_at : ℕ → List ℕ → List PoolItem → ℕ → Result Placed CodeErr
-fixed_at op code pool at = do
-  let next = at + 1 + operand_bytes op
+unfoldable pub sized_at : Form → List ℕ → List PoolItem → ℕ → Result Placed CodeErr
+sized_at form code pool at = do
+  let next = at + 1 + size form
   _ ← need (nat_le next (length code)) (CutOp at)
-  op ← fixed op (slice_range code (at + 1) next) pool at
+  op ← meaning form (slice_range code (at + 1) next) pool at
   Ok (record { at = at; next = next; op = op })
 
--- the loads, stores and iinc have a wide form
-abbrev pub has_wide_form : ℕ → Bool
-has_wide_form op = is_in_ranges ((21, 25) ∷ (54, 58) ∷ (132, 132) ∷ (169, 169) ∷ []) op
-
--- the instruction of this opcode with operands of two bytes each
-unfoldable pub widened : ℕ → List ℕ → Op
-widened op operands =
-    if nat_le op 25 then Load op (number_at w16 operands 0)
-    else (if nat_le op 58 then Store op (number_at w16 operands 0)
-    else Iinc (number_at w16 operands 0) (signed_at w16 operands 2))
+-- `wide` and an instruction, of which this many bytes of operands stand behind the two opcodes
+unfoldable pub wide_of : ℕ → (List ℕ → Op) → List ℕ → ℕ → Result Placed CodeErr
+wide_of size op code at = do
+  let next = at + 2 + size
+  _ ← need (nat_le next (length code)) (CutOp at)
+  Ok (record { at = at; next = next; op = op (slice_range code (at + 2) next) })
 
 -- `wide` and the instruction that it widens
+abbrev pub widened : Form → List ℕ → ℕ → Result Placed CodeErr
+widened (Local op) code at = wide_of 2 (λ xs. op (number_at w16 xs 0)) code at
+widened (LocalAndByte op) code at =
+    wide_of 4 (λ xs. op (number_at w16 xs 0) (signed_at w16 xs 2)) code at
+widened LeftOutLocal code at = Err (LeftOutOp at)
+widened _ code at = Err (UnknownOp at)
+
+-- a `wide`, with the instruction that it widens
 unfoldable pub wide_at : List ℕ → ℕ → Result Placed CodeErr
 wide_at code at = do
   _ ← need (nat_lt (at + 1) (length code)) (CutOp at)
-  let op = number_at w8 code (at + 1)
-  _ ← need (has_wide_form op) (UnknownOp at)
-  _ ← need (not (is_left_out op)) (LeftOutOp at)
-  let next = if op == 132 then at + 6 else at + 4
-  _ ← need (nat_le next (length code)) (CutOp at)
-  Ok (record { at = at; next = next; op = widened op (slice_range code (at + 2) next) })
+  widened (form_at (number_at w8 code (at + 1))) code at
 
--- the instruction of this opcode at an address
-unfoldable pub by_opcode : ℕ → List ℕ → List PoolItem → ℕ → Result Placed CodeErr
-by_opcode op code pool at =
-    if is_unknown op then Err (UnknownOp at)
-    else (if is_left_out op then Err (LeftOutOp at)
-    else (if op == 170 then table_switch_at code at
-    else (if op == 171 then lookup_switch_at code at
-    else (if op == 196 then wide_at code at
-    else fixed_at op code pool at))))
+-- the instruction at an address whose opcode has this form
+abbrev pub by_form : Form → List ℕ → List PoolItem → ℕ → Result Placed CodeErr
+by_form Unknown code pool at = Err (UnknownOp at)
+by_form LeftOut code pool at = Err (LeftOutOp at)
+by_form LeftOutLocal code pool at = Err (LeftOutOp at)
+by_form TableSwitch code pool at = table_switch_at code at
+by_form LookupSwitch code pool at = lookup_switch_at code at
+by_form Wide code pool at = wide_at code at
+by_form form code pool at = sized_at form code pool at
 
 -- the instruction at an address below the code's length
 unfoldable pub instruction_at : List ℕ → List PoolItem → ℕ → Result Placed CodeErr
-instruction_at code pool at = by_opcode (number_at w8 code at) code pool at
+instruction_at code pool at = by_form (form_at (number_at w8 code at)) code pool at

@@ -1,4 +1,5 @@
--- What the items of the pool tell an instruction (JVMS2 4.4). Where an index of an item leads to no item of its kind, which isn't so in a class file that was read, nothing is told.
+-- What the items of the pool tell an instruction (JVMS2 4.4). Where an index of an item leads to no
+-- item of its kind, which isn't so in a class file that was read, nothing is told.
 use Rattle.std.specs.Prelude.{ℕ, List, Option, Some, None, slice_get, option_and_then, option_map, take_while, length, ◌==◌}
 use Rattle.jvm_base.specs.declared.pool.PoolItem.{PoolItem}
 use Rattle.jvm_base.specs.declared.pool.PoolItem.TheVariants.{Field, Method, InterfaceMethod}
@@ -8,12 +9,13 @@ use Rattle.jvm_base.specs.Descriptors.{desc_of, method_of}
 use Rattle.constant_pool.specs.Items.{text_at, class_at, pair_text}
 
 -- the dimensions of the class that has this name: its leading `[`
-abbrev pub dimensions : List ℕ → ℕ
-dimensions name = length (take_while (λ u. u == 91) name)
+abbrev pub dimensions_of : List ℕ → ℕ
+dimensions_of name = length (take_while (λ u. u == 91) name)
 
 -- the dimensions of the class at an index
 abbrev pub class_dimensions : List PoolItem → ℕ → Option ℕ
-class_dimensions pool i = option_map dimensions (option_and_then (text_at pool) (class_at pool i))
+class_dimensions pool i =
+    option_map dimensions_of (option_and_then (text_at pool) (class_at pool i))
 
 -- the index of the name and descriptor of a field
 abbrev pub pair_of_field : Option PoolItem → Option ℕ
@@ -40,7 +42,8 @@ method_text pool i = option_and_then (pair_text pool) (pair_of_method (slice_get
 
 -- of the interface method
 abbrev pub interface_method_text : List PoolItem → ℕ → Option (List ℕ)
-interface_method_text pool i = option_and_then (pair_text pool) (pair_of_interface_method (slice_get pool i))
+interface_method_text pool i =
+    option_and_then (pair_text pool) (pair_of_interface_method (slice_get pool i))
 
 -- the descriptors
 abbrev pub field_desc : List PoolItem → ℕ → Option Desc

@@ -10,6 +10,7 @@ number_at w bytes at = from_be_bytes w (drop at bytes)
 abbrev pub signed_at : Width → List ℕ → ℕ → ℤ
 signed_at w bytes at = cast_signed w (number_at w bytes at)
 
--- Where an offset leads from an address. Addresses are taken modulo 2^32, so that what lies before the code is far behind it, and no instruction's.
+-- Where an offset leads from an address. Addresses are taken modulo 2^32, so that what lies before
+-- the code is far behind it, and no instruction's.
 abbrev pub target : ℕ → ℤ → ℕ
 target at offset = (at + cast_unsigned w32 offset) % 2 ^ 32

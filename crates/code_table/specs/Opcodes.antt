@@ -1,26 +1,69 @@
--- The numbers of instructions (JVMS2 9), and how many bytes of operands each has (JVMS2 6).
-use Rattle.std.specs.Prelude.{ℕ, List, [], ◌∷◌, Bool, ◌==◌, if◌then◌else◌}
-use Rattle.std.specs.List.{list_any}
-use Rattle.std.specs.Int.{is_in_range}
+-- The code's names of opcodes.
+use Rattle.std.specs.Prelude.{ℕ, List, [], ◌∷◌}
+use Prim.Native.String.{String}
+use Rattle.code_table.specs.declared.opcode.TheConstants as op
 
--- whether a number is in one of the ranges, of which the first and last number is given
-abbrev pub is_in_ranges : List (ℕ × ℕ) → ℕ → Bool
-is_in_ranges ranges n = list_any (λ r. is_in_range r.0 r.1 n) ranges
-
--- no instruction has this number
-abbrev pub is_unknown : ℕ → Bool
-is_unknown op = is_in_ranges ((186, 186) ∷ (202, 255) ∷ []) op
-
--- an instruction on floats or doubles, or one of subroutines, which this machine leaves out
-abbrev pub is_left_out : ℕ → Bool
-is_left_out op = is_in_ranges ((11, 15) ∷ (23, 24) ∷ (34, 41) ∷ (48, 49) ∷ (56, 57) ∷ (67, 74) ∷ (81, 82) ∷ (98, 99) ∷ (102, 103) ∷ (106, 107) ∷ (110, 111) ∷ (114, 115)
-    ∷ (118, 119) ∷ (134, 135) ∷ (137, 144) ∷ (149, 152) ∷ (168, 169) ∷ (174, 175) ∷ (201, 201) ∷ []) op
-
--- the bytes of operands behind an opcode other than `wide` and those of switches
-abbrev pub operand_bytes : ℕ → ℕ
-operand_bytes op =
-    if is_in_ranges ((16, 16) ∷ (18, 18) ∷ (21, 25) ∷ (54, 58) ∷ (188, 188) ∷ []) op then 1
-    else (if is_in_ranges ((17, 17) ∷ (19, 20) ∷ (132, 132) ∷ (153, 168) ∷ (178, 184) ∷ (187, 187) ∷ (189, 189) ∷ (192, 193) ∷ (198, 199) ∷ []) op then 2
-    else (if op == 197 then 3
-    else (if is_in_ranges ((185, 185) ∷ (200, 201) ∷ []) op then 4
-    else 0)))
+-- each mnemonic, as the table has it, with the constant of its name
+unfoldable pub named : List (String × ℕ)
+named =
+    ("nop", op.NOP) ∷ ("aconst_null", op.ACONST_NULL) ∷ ("iconst_m1", op.ICONST_M1)
+    ∷ ("iconst_0", op.ICONST_0) ∷ ("iconst_1", op.ICONST_1) ∷ ("iconst_2", op.ICONST_2)
+    ∷ ("iconst_3", op.ICONST_3) ∷ ("iconst_4", op.ICONST_4) ∷ ("iconst_5", op.ICONST_5)
+    ∷ ("lconst_0", op.LCONST_0) ∷ ("lconst_1", op.LCONST_1) ∷ ("fconst_0", op.FCONST_0)
+    ∷ ("fconst_1", op.FCONST_1) ∷ ("fconst_2", op.FCONST_2) ∷ ("dconst_0", op.DCONST_0)
+    ∷ ("dconst_1", op.DCONST_1) ∷ ("bipush", op.BIPUSH) ∷ ("sipush", op.SIPUSH) ∷ ("ldc", op.LDC)
+    ∷ ("ldc_w", op.LDC_W) ∷ ("ldc2_w", op.LDC2_W) ∷ ("iload", op.ILOAD) ∷ ("lload", op.LLOAD)
+    ∷ ("fload", op.FLOAD) ∷ ("dload", op.DLOAD) ∷ ("aload", op.ALOAD) ∷ ("iload_0", op.ILOAD_0)
+    ∷ ("iload_1", op.ILOAD_1) ∷ ("iload_2", op.ILOAD_2) ∷ ("iload_3", op.ILOAD_3)
+    ∷ ("lload_0", op.LLOAD_0) ∷ ("lload_1", op.LLOAD_1) ∷ ("lload_2", op.LLOAD_2)
+    ∷ ("lload_3", op.LLOAD_3) ∷ ("fload_0", op.FLOAD_0) ∷ ("fload_1", op.FLOAD_1)
+    ∷ ("fload_2", op.FLOAD_2) ∷ ("fload_3", op.FLOAD_3) ∷ ("dload_0", op.DLOAD_0)
+    ∷ ("dload_1", op.DLOAD_1) ∷ ("dload_2", op.DLOAD_2) ∷ ("dload_3", op.DLOAD_3)
+    ∷ ("aload_0", op.ALOAD_0) ∷ ("aload_1", op.ALOAD_1) ∷ ("aload_2", op.ALOAD_2)
+    ∷ ("aload_3", op.ALOAD_3) ∷ ("iaload", op.IALOAD) ∷ ("laload", op.LALOAD)
+    ∷ ("faload", op.FALOAD) ∷ ("daload", op.DALOAD) ∷ ("aaload", op.AALOAD)
+    ∷ ("baload", op.BALOAD) ∷ ("caload", op.CALOAD) ∷ ("saload", op.SALOAD)
+    ∷ ("istore", op.ISTORE) ∷ ("lstore", op.LSTORE) ∷ ("fstore", op.FSTORE)
+    ∷ ("dstore", op.DSTORE) ∷ ("astore", op.ASTORE) ∷ ("istore_0", op.ISTORE_0)
+    ∷ ("istore_1", op.ISTORE_1) ∷ ("istore_2", op.ISTORE_2) ∷ ("istore_3", op.ISTORE_3)
+    ∷ ("lstore_0", op.LSTORE_0) ∷ ("lstore_1", op.LSTORE_1) ∷ ("lstore_2", op.LSTORE_2)
+    ∷ ("lstore_3", op.LSTORE_3) ∷ ("fstore_0", op.FSTORE_0) ∷ ("fstore_1", op.FSTORE_1)
+    ∷ ("fstore_2", op.FSTORE_2) ∷ ("fstore_3", op.FSTORE_3) ∷ ("dstore_0", op.DSTORE_0)
+    ∷ ("dstore_1", op.DSTORE_1) ∷ ("dstore_2", op.DSTORE_2) ∷ ("dstore_3", op.DSTORE_3)
+    ∷ ("astore_0", op.ASTORE_0) ∷ ("astore_1", op.ASTORE_1) ∷ ("astore_2", op.ASTORE_2)
+    ∷ ("astore_3", op.ASTORE_3) ∷ ("iastore", op.IASTORE) ∷ ("lastore", op.LASTORE)
+    ∷ ("fastore", op.FASTORE) ∷ ("dastore", op.DASTORE) ∷ ("aastore", op.AASTORE)
+    ∷ ("bastore", op.BASTORE) ∷ ("castore", op.CASTORE) ∷ ("sastore", op.SASTORE)
+    ∷ ("pop", op.POP) ∷ ("pop2", op.POP2) ∷ ("dup", op.DUP) ∷ ("dup_x1", op.DUP_X1)
+    ∷ ("dup_x2", op.DUP_X2) ∷ ("dup2", op.DUP2) ∷ ("dup2_x1", op.DUP2_X1)
+    ∷ ("dup2_x2", op.DUP2_X2) ∷ ("swap", op.SWAP) ∷ ("iadd", op.IADD) ∷ ("ladd", op.LADD)
+    ∷ ("fadd", op.FADD) ∷ ("dadd", op.DADD) ∷ ("isub", op.ISUB) ∷ ("lsub", op.LSUB)
+    ∷ ("fsub", op.FSUB) ∷ ("dsub", op.DSUB) ∷ ("imul", op.IMUL) ∷ ("lmul", op.LMUL)
+    ∷ ("fmul", op.FMUL) ∷ ("dmul", op.DMUL) ∷ ("idiv", op.IDIV) ∷ ("ldiv", op.LDIV)
+    ∷ ("fdiv", op.FDIV) ∷ ("ddiv", op.DDIV) ∷ ("irem", op.IREM) ∷ ("lrem", op.LREM)
+    ∷ ("frem", op.FREM) ∷ ("drem", op.DREM) ∷ ("ineg", op.INEG) ∷ ("lneg", op.LNEG)
+    ∷ ("fneg", op.FNEG) ∷ ("dneg", op.DNEG) ∷ ("ishl", op.ISHL) ∷ ("lshl", op.LSHL)
+    ∷ ("ishr", op.ISHR) ∷ ("lshr", op.LSHR) ∷ ("iushr", op.IUSHR) ∷ ("lushr", op.LUSHR)
+    ∷ ("iand", op.IAND) ∷ ("land", op.LAND) ∷ ("ior", op.IOR) ∷ ("lor", op.LOR)
+    ∷ ("ixor", op.IXOR) ∷ ("lxor", op.LXOR) ∷ ("iinc", op.IINC) ∷ ("i2l", op.I2L)
+    ∷ ("i2f", op.I2F) ∷ ("i2d", op.I2D) ∷ ("l2i", op.L2I) ∷ ("l2f", op.L2F) ∷ ("l2d", op.L2D)
+    ∷ ("f2i", op.F2I) ∷ ("f2l", op.F2L) ∷ ("f2d", op.F2D) ∷ ("d2i", op.D2I) ∷ ("d2l", op.D2L)
+    ∷ ("d2f", op.D2F) ∷ ("i2b", op.I2B) ∷ ("i2c", op.I2C) ∷ ("i2s", op.I2S) ∷ ("lcmp", op.LCMP)
+    ∷ ("fcmpl", op.FCMPL) ∷ ("fcmpg", op.FCMPG) ∷ ("dcmpl", op.DCMPL) ∷ ("dcmpg", op.DCMPG)
+    ∷ ("ifeq", op.IFEQ) ∷ ("ifne", op.IFNE) ∷ ("iflt", op.IFLT) ∷ ("ifge", op.IFGE)
+    ∷ ("ifgt", op.IFGT) ∷ ("ifle", op.IFLE) ∷ ("if_icmpeq", op.IF_ICMPEQ)
+    ∷ ("if_icmpne", op.IF_ICMPNE) ∷ ("if_icmplt", op.IF_ICMPLT) ∷ ("if_icmpge", op.IF_ICMPGE)
+    ∷ ("if_icmpgt", op.IF_ICMPGT) ∷ ("if_icmple", op.IF_ICMPLE) ∷ ("if_acmpeq", op.IF_ACMPEQ)
+    ∷ ("if_acmpne", op.IF_ACMPNE) ∷ ("goto", op.GOTO) ∷ ("jsr", op.JSR) ∷ ("ret", op.RET)
+    ∷ ("tableswitch", op.TABLESWITCH) ∷ ("lookupswitch", op.LOOKUPSWITCH)
+    ∷ ("ireturn", op.IRETURN) ∷ ("lreturn", op.LRETURN) ∷ ("freturn", op.FRETURN)
+    ∷ ("dreturn", op.DRETURN) ∷ ("areturn", op.ARETURN) ∷ ("return", op.RETURN)
+    ∷ ("getstatic", op.GETSTATIC) ∷ ("putstatic", op.PUTSTATIC) ∷ ("getfield", op.GETFIELD)
+    ∷ ("putfield", op.PUTFIELD) ∷ ("invokevirtual", op.INVOKEVIRTUAL)
+    ∷ ("invokespecial", op.INVOKESPECIAL) ∷ ("invokestatic", op.INVOKESTATIC)
+    ∷ ("invokeinterface", op.INVOKEINTERFACE) ∷ ("new", op.NEW) ∷ ("newarray", op.NEWARRAY)
+    ∷ ("anewarray", op.ANEWARRAY) ∷ ("arraylength", op.ARRAYLENGTH) ∷ ("athrow", op.ATHROW)
+    ∷ ("checkcast", op.CHECKCAST) ∷ ("instanceof", op.INSTANCEOF)
+    ∷ ("monitorenter", op.MONITORENTER) ∷ ("monitorexit", op.MONITOREXIT) ∷ ("wide", op.WIDE)
+    ∷ ("multianewarray", op.MULTIANEWARRAY) ∷ ("ifnull", op.IFNULL) ∷ ("ifnonnull", op.IFNONNULL)
+    ∷ ("goto_w", op.GOTO_W) ∷ ("jsr_w", op.JSR_W) ∷ []

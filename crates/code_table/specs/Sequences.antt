@@ -3,7 +3,7 @@ use Rattle.std.specs.Prelude.{◌≡◌, ◌<◌, ◌≤◌, ℕ, zero, suc, Lis
 use Rattle.jvm_base.specs.declared.pool.PoolItem.{PoolItem}
 use Rattle.code_table.specs.declared.error.CodeErr.{CodeErr}
 use Rattle.code_table.specs.declared.code.Placed.{Placed}
-use Rattle.code_table.specs.Results.{◌>>=◌}
+use Rattle.jvm_base.specs.Refusing.{◌>>=◌}
 use Rattle.code_table.specs.Instructions.{instruction_at}
 
 -- From one address the instructions lead up to another: each stands where the one before it ends.
@@ -21,8 +21,10 @@ pub record EndsWithin (at end : ℕ) (p : Placed) : Type 0 where
   pub behind : at < p.next
   pub within : p.next ≤ end
 
--- The instructions from an address on, computed, or the first refusal. There are no more of them than bytes.
-unfoldable pub instructions_from : (most : ℕ) → List ℕ → List PoolItem → ℕ → Result (List Placed) CodeErr
+-- The instructions from an address on, computed, or the first refusal. There are no more of them than
+-- bytes.
+unfoldable pub instructions_from : (most : ℕ) → List ℕ → List PoolItem → ℕ
+    → Result (List Placed) CodeErr
 instructions_from zero code pool at = Ok []
 instructions_from (suc most) code pool at =
     if nat_lt at (length code) then (do

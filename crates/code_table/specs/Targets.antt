@@ -26,9 +26,11 @@ is_start ops at = list_any (λ p. p.at == at) ops
 unfoldable pub leads_off : (ℕ → Bool) → Placed → Bool
 leads_off start p = not (list_all start (targets_of p.op))
 
--- An entry of the exception table is bad where one of its addresses isn't a start, or its range is empty. The end may be that of the code.
+-- An entry of the exception table is bad where one of its addresses isn't a start, or its range is
+-- empty. The end may be that of the code.
 unfoldable pub is_bad_entry : (ℕ → Bool) → ℕ → TableItem → Bool
-is_bad_entry start end e = not (start e.start && (start e.end || e.end == end) && start e.handler && nat_lt e.start e.end)
+is_bad_entry start end e =
+    not (start e.start && (start e.end || e.end == end) && start e.handler && nat_lt e.start e.end)
 
 -- nothing is wrong, or the first that is tells the refusal
 abbrev pub refused : {A : Type 0} → (A → CodeErr) → Option A → Result (Unit {0}) CodeErr

@@ -1,7 +1,8 @@
 //! Decoding whole code.
 
 ghost use Rattle.std.specs.Prelude.{◌≡◌, ◌<◌, ◌^◌, ℕ, pos, ◌+ℤ◌, length, IfOk, IfErr, AllPairs, List as Items};
-ghost use Rattle.code_table.specs.Results.{Gives};
+ghost use Rattle.jvm_base.specs.Told.{Gives, itself};
+ghost use Rattle.code_table.specs.Told.{told};
 ghost use Rattle.code_table.specs.Accepted.{IsCode, IsDue, IsHere, IsRefused};
 ghost use Rattle.code_table.specs.Decoded.{decoded};
 ghost use Rattle.code_table.specs.Instructions.{instruction_at};
@@ -28,7 +29,7 @@ fn table_copy(alloc: Global, table: &[TableItem]) -> Result<List<TableItem>, NoM
 /// The computed answer.
 #[tactic(auto, unfolding(crate::specs::Decoded::decoded))]
 fn decoded(alloc: Global, item: &CodeItem, pool: &Pool) -> Result<Code, CodeErr>
-    ensures { Gives result (decoded item.now pool.now) }
+    ensures { Gives told itself result (decoded item.now pool.now) }
 {
     let code = item.code.as_slice();
     let table = item.table.as_slice();
@@ -53,10 +54,12 @@ fn decoded(alloc: Global, item: &CodeItem, pool: &Pool) -> Result<Code, CodeErr>
 /// file has, is answered by `NoMemory`. Empty code has no instructions.
 pub fn decode_code(alloc: Global, item: &CodeItem, pool: &Pool) -> Result<Code, CodeErr>
     ensures found { IfOk result (λ code. IsCode item.now pool.now code) }
-    ensures only { (code : Code) → IsCode item.now pool.now code → Gives result (Ok code) }
+    ensures only { (code : Code)
+        → IsCode item.now pool.now code → Gives told itself result (Ok code) }
     ensures refused { IfErr result (λ e. IsDue item.now pool.now e) }
-    ensures due { (e : CodeErr) → IsRefused item.now pool.now e → Gives result (Err e) }
-    ensures exact { Gives result (decoded item.now pool.now) }
+    ensures due { (e : CodeErr)
+        → IsRefused item.now pool.now e → Gives told itself result (Err e) }
+    ensures exact { Gives told itself result (decoded item.now pool.now) }
 {
     decoded(alloc, item, pool)
 }

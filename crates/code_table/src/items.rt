@@ -3,7 +3,7 @@
 ghost use Rattle.std.specs.Prelude.{◌≡◌, slice_get};
 ghost use Rattle.std.specs.Option.{option_copied};
 ghost use Rattle.constant_pool.specs.Items.{class_at, pair_text};
-ghost use Rattle.code_table.specs.Items.{class_dimensions, dimensions, field_text, method_text, interface_method_text};
+ghost use Rattle.code_table.specs.Items.{class_dimensions, dimensions_of, field_text, method_text, interface_method_text};
 
 use constant_pool::{pair_desc, text_at};
 use jvm_base::{Pool, PoolItem, Units};
@@ -19,8 +19,8 @@ pub(crate) fn class_at(pool: &Pool, at: u16) -> Option<u16>
 }
 
 /// The dimensions of the class that has this name.
-fn dimensions(name: &Units) -> usize
-    ensures { result ≡ dimensions name.now }
+fn dimensions_of(name: &Units) -> usize
+    ensures { result ≡ dimensions_of name.now }
 {
     name.as_slice()
         .iter()
@@ -33,7 +33,7 @@ pub(crate) fn class_dimensions(pool: &Pool, at: u16) -> Option<usize>
     ensures { result ≡ class_dimensions pool.now at }
 {
     let name = class_at(pool, at)?;
-    Some(dimensions(text_at(pool.as_slice(), name)?))
+    Some(dimensions_of(text_at(pool.as_slice(), name)?))
 }
 
 /// The text of the descriptor of the name and descriptor at an index.

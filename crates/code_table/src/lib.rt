@@ -5,12 +5,13 @@ mod bytes;
 mod code;
 mod decode;
 mod error;
-mod fixed;
 mod instruction;
 mod items;
+mod kind;
+mod meaning;
 mod members;
 mod op;
-mod opcode;
+pub mod opcode;
 mod sequence;
 mod switches;
 mod target;
@@ -18,7 +19,5 @@ mod target;
 pub use code::{Code, Placed};
 pub use decode::{decode_code, one_answer, one_cover, one_instruction, target_is_sum};
 pub use error::CodeErr;
+pub use kind::one_row;
 pub use op::Op;
-
-#[cfg(test)]
-mod tests;

@@ -2,7 +2,8 @@
 
 ghost use Rattle.std.specs.Prelude.{◌≡◌, ◌<◌, ◌^◌, length, IfOk, All};
 ghost use Rattle.code_table.specs.Sequences.{instructions_of};
-ghost use Rattle.code_table.specs.Results.{Gives};
+ghost use Rattle.jvm_base.specs.Told.{Gives, itself};
+ghost use Rattle.code_table.specs.Told.{told};
 
 use crate::code::Placed;
 use crate::error::CodeErr;
@@ -17,7 +18,7 @@ pub(crate) fn instructions_of(
     pool: &Pool,
 ) -> Result<List<Placed>, CodeErr>
     requires { length code.now < 2 ^ 31 }
-    ensures exact { Gives result (instructions_of code.now pool.now) }
+    ensures exact { Gives told itself result (instructions_of code.now pool.now) }
     ensures within { IfOk result (λ ops. All (λ p. p.at < length code.now) ops) }
 {
     let mut ops = List::new(alloc);

@@ -1,7 +1,8 @@
 //! Switches.
 
 ghost use Rattle.std.specs.Prelude.{◌≡◌, ◌+◌, ◌*◌, ◌≤◌, ◌<◌, ◌^◌, length, IfOk};
-ghost use Rattle.code_table.specs.Results.{Gives};
+ghost use Rattle.jvm_base.specs.Told.{Gives, itself};
+ghost use Rattle.code_table.specs.Told.{told};
 ghost use Rattle.code_table.specs.Sequences.{EndsWithin};
 ghost use Rattle.code_table.specs.Switches.{operands_from, targets_from, pairs_from, rise, table_switch_at, lookup_switch_at};
 
@@ -75,7 +76,7 @@ fn rise(pairs: &[(i32, u32)]) -> bool
 #[tactic(auto, unfolding(crate::specs::Switches::table_switch_at))]
 pub(crate) fn table_switch_at(alloc: Global, code: &[u8], at: u32) -> Result<Placed, CodeErr>
     requires { length code.now < 2 ^ 31 }
-    ensures exact { Gives result (table_switch_at code.now at) }
+    ensures exact { Gives told itself result (table_switch_at code.now at) }
     ensures within { IfOk result (λ p. EndsWithin at (length code.now) p) }
 {
     let place = operands_from(at);
@@ -111,7 +112,7 @@ pub(crate) fn table_switch_at(alloc: Global, code: &[u8], at: u32) -> Result<Pla
 #[tactic(auto, unfolding(crate::specs::Switches::lookup_switch_at))]
 pub(crate) fn lookup_switch_at(alloc: Global, code: &[u8], at: u32) -> Result<Placed, CodeErr>
     requires { length code.now < 2 ^ 31 }
-    ensures exact { Gives result (lookup_switch_at code.now at) }
+    ensures exact { Gives told itself result (lookup_switch_at code.now at) }
     ensures within { IfOk result (λ p. EndsWithin at (length code.now) p) }
 {
     let place = operands_from(at);

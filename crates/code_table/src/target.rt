@@ -5,7 +5,8 @@ ghost use Rattle.std.specs.Option.{option_copied};
 ghost use Rattle.code_table.specs.declared.error.CodeErr.TheVariants.{TargetOff, BadTable};
 ghost use Rattle.code_table.specs.Targets.{targets_of, is_start, leads_off, is_bad_entry, refused, flag_at};
 ghost use Rattle.std.specs.List.{list_all};
-ghost use Rattle.code_table.specs.Results.{Gives};
+ghost use Rattle.jvm_base.specs.Told.{Gives, itself};
+ghost use Rattle.code_table.specs.Told.{told};
 
 use crate::code::Placed;
 use crate::error::CodeErr;
@@ -77,7 +78,7 @@ fn first_off<'a>(ops: &'a [Placed], flags: &[bool]) -> Option<&'a Placed>
 
 /// Refuses the first instruction with a target that isn't a start.
 pub(crate) fn check_targets(ops: &[Placed], flags: &[bool]) -> Result<(), CodeErr>
-    ensures { Gives result
+    ensures { Gives told itself result
         (refused (λ p. TargetOff p.at) (find (leads_off (flag_at flags.now)) ops.now)) }
 {
     match first_off(ops, flags) {
@@ -110,7 +111,7 @@ fn first_bad(table: &[TableItem], flags: &[bool], end: usize) -> Option<usize>
 /// Refuses the first bad entry.
 pub(crate) fn check_table(table: &[TableItem], flags: &[bool], end: usize) -> Result<(), CodeErr>
     requires { length table.now < 2 ^ 32 }
-    ensures { Gives result
+    ensures { Gives told itself result
         (refused BadTable (position (is_bad_entry (flag_at flags.now) end) table.now)) }
 {
     match first_bad(table, flags, end) {

@@ -1,0 +1,2 @@
+-- How the code sees the table: no promise of a public call rests on these.
+pub mod Kinds
