@@ -1,7 +1,8 @@
 //! How much the code of a class's methods is decoded to.
 
 ghost use Rattle.std.specs.Prelude.{◌≡◌, ◌+◌, min, IfOk, IfErr, Ok};
-ghost use Rattle.code_table.specs.Results.{Gives};
+ghost use Rattle.jvm_base.specs.Told.{Gives, itself};
+ghost use Rattle.code_table.specs.Told.{told};
 ghost use Rattle.std.specs.Option.{unwrap_or};
 ghost use Rattle.decode_run.specs.Counts.{instructions_of, one_if, most, IsCounted, IsRefusedAt};
 
@@ -43,7 +44,7 @@ impl Counts {
 
 /// How many instructions the code of a method has, if it has code.
 fn instructions(alloc: Global, method: &MethodItem, pool: &Pool) -> Result<Option<usize>, CodeErr>
-    ensures { Gives result (instructions_of pool.now method.now.code) }
+    ensures { Gives told itself result (instructions_of pool.now method.now.code) }
 {
     match &method.code {
         Some(item) => {

@@ -21,7 +21,7 @@ fn show(rt: &HostRuntime, name: &str) -> io::Result<()> {
 
 fn show_code(rt: &HostRuntime, name: &str, class: &ClassFile) -> io::Result<()> {
     match count_all(rt.alloc(), class) {
-        Err(Refused { method, why }) => println!(rt; "{name}: method {method} refused, {why:?}"),
+        Err(Refused { method, why }) => println!(rt; "{name}: method {method} refused, {why}"),
         Ok(
             Counts {
                 methods,
