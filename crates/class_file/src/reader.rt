@@ -5,6 +5,7 @@ ghost use Rattle.std.specs.Int.{w8, w16, w32, w64};
 ghost use Rattle.class_file.specs.Reading.{Gives, number_at, bytes_at, offset_of};
 
 use crate::error::ClassErr;
+use byteorder::{BigEndian, ByteOrder};
 use std::marker::Model;
 
 /// A file and how far it was read.
@@ -68,7 +69,7 @@ impl<'a> Reader<'a> {
         }
         let (front, rest) = self.rest.split_at(1);
         self.rest = rest;
-        Ok(u8::from_be_bytes([front[0]]))
+        Ok(front[0])
     }
 
     /// A number of two bytes.
@@ -80,7 +81,7 @@ impl<'a> Reader<'a> {
         }
         let (front, rest) = self.rest.split_at(2);
         self.rest = rest;
-        Ok(u16::from_be_bytes([front[0], front[1]]))
+        Ok(BigEndian::read_u16(front))
     }
 
     /// A number of four bytes.
@@ -92,7 +93,7 @@ impl<'a> Reader<'a> {
         }
         let (front, rest) = self.rest.split_at(4);
         self.rest = rest;
-        Ok(u32::from_be_bytes([front[0], front[1], front[2], front[3]]))
+        Ok(BigEndian::read_u32(front))
     }
 
     /// A number of eight bytes.
@@ -104,9 +105,7 @@ impl<'a> Reader<'a> {
         }
         let (front, rest) = self.rest.split_at(8);
         self.rest = rest;
-        Ok(u64::from_be_bytes([
-            front[0], front[1], front[2], front[3], front[4], front[5], front[6], front[7],
-        ]))
+        Ok(BigEndian::read_u64(front))
     }
 
     /// So many bytes.
