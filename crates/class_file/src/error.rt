@@ -1,14 +1,17 @@
 //! Why a class file is refused.
 
-ghost use Rattle.std.specs.Prelude.{◌≡◌};
+ghost use Rattle.std.specs.Prelude.{◌≡◌, Some};
 ghost use Rattle.class_file.specs.declared.error.ClassErr.TheVariants.{NoMemory as OutOfMemory};
+ghost use Rattle.class_file.specs.Reasons.{reason};
 
 use jvm_base::NoMemory;
 use std::alloc::{AllocError, AllocFailed};
+use std::fmt;
+use thiserror::Error;
 
 /// The first refusal of a file that is read from front to back. Offsets count bytes from 0, pool
 /// indices and methods are numbers of the file.
-#[derive(Clone, Copy, Debug, PartialEq, Eq)]
+#[derive(Clone, Copy, Debug, PartialEq, Eq, Error)]
 pub enum ClassErr {
     /// The first four bytes are others than a class file's (JVMS2 4.1).
     Magic,
@@ -38,6 +41,30 @@ pub enum ClassErr {
     Extra(u64),
     /// No memory was left.
     NoMemory,
+}
+
+/// What a report says of the file.
+impl fmt::Display for ClassErr {
+    ghost output = { λ e. Some (reason e) };
+
+    fn fmt<W: fmt::Write>(&self, f: &mut fmt::Formatter<W>) -> fmt::Result {
+        match self {
+            ClassErr::Magic => write!(f, "magic"),
+            ClassErr::Version(major, minor) => write!(f, "version {major}.{minor}"),
+            ClassErr::Cut(at) => write!(f, "cut {at}"),
+            ClassErr::PoolTag(index) => write!(f, "pool tag {index}"),
+            ClassErr::PoolText(index) => write!(f, "pool text {index}"),
+            ClassErr::PoolLink(index) => write!(f, "pool link {index}"),
+            ClassErr::ItemLink(at) => write!(f, "item link {at}"),
+            ClassErr::Flags(at) => write!(f, "flags {at}"),
+            ClassErr::AttrLength(at) => write!(f, "attribute length {at}"),
+            ClassErr::CodeLength(method) => write!(f, "code length {method}"),
+            ClassErr::CodeCount(method) => write!(f, "code count {method}"),
+            ClassErr::Twice(at) => write!(f, "twice {at}"),
+            ClassErr::Extra(at) => write!(f, "extra {at}"),
+            ClassErr::NoMemory => write!(f, "want of memory"),
+        }
+    }
 }
 
 impl From<NoMemory> for ClassErr {
