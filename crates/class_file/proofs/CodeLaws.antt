@@ -1,6 +1,5 @@
 -- Code that is read is the code that is spelled.
-use Rattle.std.proofs.Common.{◌≡◌, ℕ, ◌+◌, ◌<◌, true, ◌&&◌, ◌||◌, nat_lt, List, [], ◌++◌, length, Ok, refl, sym, ap, subst, ◌∙◌, arith, length-append}
-use Rattle.std.specs.Int.{w16, w32}
+use Rattle.std.proofs.Common.{◌≡◌, ℕ, ◌+◌, ◌<◌, ◌^◌, true, ◌&&◌, nat_lt, List, [], ◌∷◌, ◌++◌, length, Ok, refl, sym, ap, subst, ◌∙◌, arith, length-append}
 use Rattle.std.specs.List.{AllByRecursion}
 use Rattle.std.specs.Prelude.{nat_eq}
 use Rattle.std.proofs.lemmas.Bool.{eqb-true}
@@ -10,51 +9,46 @@ use Rattle.jvm_base.specs.declared.code_item.TableItem.{TableItem}
 use Rattle.jvm_base.specs.declared.pool.PoolItem.{PoolItem}
 use Rattle.jvm_base.proofs.Refusing.{bind_ok, need_ok, bind_then, need_then, ok_is}
 use Rattle.class_file.specs.declared.attribute.AttributeHead.{AttributeHead}
-use Rattle.class_file.specs.declared.error.ClassErr.TheVariants.{ItemLink, AttrLength, CodeLength}
-use Rattle.constant_pool.specs.Items.{is_class_at}
-use Rattle.class_format.specs.Meaning.{AreBytes, FitsEntry, IsCode}
-use Rattle.class_file.specs.MemberReading.{other_at, table_item_at, code_contents_at, code_at}
-use Rattle.class_file.specs.Reading.{Place, offset_of, number_at, bytes_at, counted_at, listed_at}
+use Rattle.class_file.specs.declared.code.CodeSizes.{CodeSizes}
+use Rattle.class_file.specs.declared.error.ClassErr.TheVariants.{AttrLength, CodeLength}
+use Rattle.class_format.specs.Meaning.{AreBytes, FitsNumbers, FitsEntry, IsCode}
+use Rattle.class_file.specs.MemberReading.{other_at, entry_numbers_at, table_item_at, sizes_at, code_contents_at, code_at}
+use Rattle.class_file.specs.Reading.{Place, bytes_at, counted_at, listed_at}
 use Rattle.class_format.specs.Spelling.{number2, number4, listed, attribute_bytes, table_bytes, code_bytes}
+use Rattle.class_file.specs.Refused.{sizes_bytes, FitsCodeSizes, entry_tests, InEntry}
 use Rattle.class_file.proofs.AttributeLaws.{others_take, others_again}
-use Rattle.class_file.proofs.PartLaws.{IsItem, TookItem, items_take, items_again, Itself, itself_is, itself_of}
-use Rattle.class_file.proofs.ReadLaws.{regroup4, regroup6, at, Takes, Takes-then, bytes_take, bytes_again, read2, read4}
+use Rattle.class_file.proofs.Groups.{IsTold, IsGroup, two, four, group_of, group_told, group_read}
+use Rattle.class_file.proofs.PartLaws.{IsItem, Itself, itself_item, same_read}
+use Rattle.class_file.proofs.ReadLaws.{regroup4, at, Takes, Takes-then, IsRead, bytes_take, bytes_again}
 
 -- ---- entries of an exception table
 
-pub entry : (pool : List PoolItem) → IsItem (table_item_at pool) table_bytes (Itself (FitsEntry pool))
+pub entry_group : IsGroup entry_numbers_at 8 table_bytes FitsNumbers
+unfolding entry_numbers_at
+entry_group = group_of (two ∷ two ∷ two ∷ two ∷ []) (λ ns. record { start = ns.0; end = ns.1.0; handler = ns.1.1.0; class = ns.1.1.1.0 }) (λ t. (t.start, (t.end, (t.handler, (t.class, tt))))) (λ t. refl) table_bytes FitsNumbers
+    (λ ns. refl) (λ ns fits. record { start = fits.0; end = fits.1.0; handler = fits.1.1.0; class = fits.1.1.1.0 }) (λ t fits. (fits.start, (fits.end, (fits.handler, (fits.class, tt)))))
+
+pub entry_read : (pool : List PoolItem) (earlier : List TableItem) → IsRead (table_item_at pool earlier) table_bytes (FitsEntry pool)
 unfolding table_item_at
-entry pool = record {
-  takes = λ earlier p z fits e.
-      let start = bind_ok (number_at w16 p) _ z e in
-      let end = bind_ok (number_at w16 start.0.1) _ z start.2 in
-      let handler = bind_ok (number_at w16 end.0.1) _ z end.2 in
-      let class = bind_ok (number_at w16 handler.0.1) _ z handler.2 in
-      let link = need_ok (nat_eq class.0.0 0 || is_class_at pool class.0.0) (ItemLink (offset_of handler.0.1)) _ z class.2 in
-      let t0 = read2.takes p start.0.1 start.0.0 fits start.1 in
-      let t1 = read2.takes start.0.1 end.0.1 end.0.0 t0.0.rest_fits end.1 in
-      let t2 = read2.takes end.0.1 handler.0.1 handler.0.0 t1.0.rest_fits handler.1 in
-      let t3 = read2.takes handler.0.1 class.0.1 class.0.0 t2.0.rest_fits class.1 in
-      let two = Takes-then p (number2 start.0.0) start.0.1 (number2 end.0.0) end.0.1 t0.0 t1.0 in
-      let three = Takes-then p (number2 start.0.0 ++ number2 end.0.0) end.0.1 (number2 handler.0.0) handler.0.1 two t2.0 in
-      let made : TableItem × Place = (record { start = start.0.0; end = end.0.0; handler = handler.0.0; class = class.0.0 }, class.0.1) in
-      subst (λ (z : TableItem × Place). TookItem table_bytes (Itself (FitsEntry pool)) earlier p z) (ok_is made z link.1) (record {
-        a = made.0;
-        is = (refl, record { start = t0.1; end = t1.1; handler = t2.1; class = t3.1; link = link.0 });
-        took = Takes-then p (number2 start.0.0 ++ number2 end.0.0 ++ number2 handler.0.0) handler.0.1 (number2 class.0.0) class.0.1 three t3.0;
-      });
-  again = λ earlier a x n rest h.
-      ap (λ (bytes : List ℕ). table_item_at pool earlier (at n bytes)) (regroup4 (number2 a.start) (number2 a.end) (number2 a.handler) (number2 a.class) rest)
-      ∙ (let class_rest : List ℕ = number2 a.class ++ rest in
-      let handler_rest : List ℕ = number2 a.handler ++ class_rest in
-      let end_rest : List ℕ = number2 a.end ++ handler_rest in
-      bind_then (number_at w16 (at n (number2 a.start ++ end_rest))) (a.start, at n end_rest) _ _ (read2.again a.start n end_rest h.1.start)
-      (bind_then (number_at w16 (at n end_rest)) (a.end, at n handler_rest) _ _ (read2.again a.end n handler_rest h.1.end)
-      (bind_then (number_at w16 (at n handler_rest)) (a.handler, at n class_rest) _ _ (read2.again a.handler n class_rest h.1.handler)
-      (bind_then (number_at w16 (at n class_rest)) (a.class, at n rest) _ _ (read2.again a.class n rest h.1.class)
-      (need_then (nat_eq a.class 0 || is_class_at pool a.class) _ _ _ h.1.link
-      (ap (λ (t : TableItem). Ok (t, at n rest)) (sym h.0)))))));
-}
+entry_read pool earlier = group_read entry_numbers_at 8 table_bytes FitsNumbers (FitsEntry pool) entry_group (entry_tests pool) (λ p t fits met. record { fits = fits; link = met.0 }) (λ p t is. (is.fits, (is.link, tt)))
+
+-- where an entry is refused
+pub entry_told : (pool : List PoolItem) (earlier : List TableItem) → IsTold (table_item_at pool earlier) (InEntry pool)
+unfolding table_item_at
+entry_told pool earlier = group_told entry_numbers_at 8 table_bytes FitsNumbers entry_group (entry_tests pool) (λ t. t)
+
+pub entry : (pool : List PoolItem) → IsItem (table_item_at pool) table_bytes (Itself (FitsEntry pool))
+entry pool = itself_item (table_item_at pool) table_bytes (FitsEntry pool) (entry_read pool)
+
+pub table_read : (pool : List PoolItem) → IsRead (listed_at (table_item_at pool)) (listed table_bytes) (λ table. AllByRecursion (FitsEntry pool) table × (length table < 2 ^ 16))
+table_read pool = same_read (table_item_at pool) table_bytes (FitsEntry pool) (entry pool)
+
+-- ---- the numbers of a Code
+
+pub sizes_group : IsGroup sizes_at 8 sizes_bytes FitsCodeSizes
+unfolding sizes_at
+sizes_group = group_of (two ∷ two ∷ four ∷ []) (λ ns. record { max_stack = ns.0; max_locals = ns.1.0; len = ns.1.1.0 }) (λ c. (c.max_stack, (c.max_locals, (c.len, tt)))) (λ c. refl) sizes_bytes FitsCodeSizes
+    (λ ns. refl) (λ ns fits. record { max_stack = fits.0; max_locals = fits.1.0; len = fits.1.1.0 }) (λ c fits. (fits.max_stack, (fits.max_locals, (fits.len, tt))))
 
 -- ---- the contents of Code
 
@@ -69,64 +63,58 @@ in_range n h = (grind (arith, nat_tests), grind (arith, nat_tests))
 pub is_in_range : (n : ℕ) → 0 < n → n < 65536 → (nat_lt 0 n && nat_lt n 65536) ≡ true
 is_in_range n some short = grind (arith, nat_tests)
 
+-- the numbers that a code has
+abbrev sizes_of : CodeItem → CodeSizes
+sizes_of c = record { max_stack = c.max_stack; max_locals = c.max_locals; len = length c.code }
+
 pub contents_take : (pool : List PoolItem) (m : ℕ) (p : Place) (z : CodeItem × Place) → AreBytes p.rest → code_contents_at pool m p ≡ Ok z → IsCodeTaken pool p z
 unfolding code_contents_at
 contents_take pool m p z fits e =
-    let stack = bind_ok (number_at w16 p) _ z e in
-    let locals = bind_ok (number_at w16 stack.0.1) _ z stack.2 in
-    let len = bind_ok (number_at w32 locals.0.1) _ z locals.2 in
-    let range = need_ok (nat_lt 0 len.0.0 && nat_lt len.0.0 65536) (CodeLength m) _ z len.2 in
-    let code = bind_ok (bytes_at len.0.0 len.0.1) _ z range.1 in
+    let sizes = bind_ok (sizes_at p) _ z e in
+    let range = need_ok (nat_lt 0 sizes.0.0.len && nat_lt sizes.0.0.len 65536) (CodeLength m) _ z sizes.2 in
+    let code = bind_ok (bytes_at sizes.0.0.len sizes.0.1) _ z range.1 in
     let table = bind_ok (listed_at (table_item_at pool) code.0.1) _ z code.2 in
     let others = bind_ok (counted_at (other_at pool) tt table.0.1) _ z table.2 in
-    let t0 = read2.takes p stack.0.1 stack.0.0 fits stack.1 in
-    let t1 = read2.takes stack.0.1 locals.0.1 locals.0.0 t0.0.rest_fits locals.1 in
-    let t2 = read4.takes locals.0.1 len.0.1 len.0.0 t1.0.rest_fits len.1 in
-    let t3 = bytes_take len.0.0 len.0.1 code.0.1 code.0.0 t2.0.rest_fits code.1 in
-    let t4 = items_take (table_item_at pool) table_bytes (Itself (FitsEntry pool)) (entry pool) code.0.1 table.0 t3.0.rest_fits table.1 in
-    let t5 = others_take pool table.0.1 others.0 t4.took.rest_fits others.1 in
-    let entries = itself_is (FitsEntry pool) [] t4.sources table.0.0 t4.spelled in
-    let bounds = in_range len.0.0 range.0 in
-    let made : CodeItem × Place = (record { max_stack = stack.0.0; max_locals = locals.0.0; code = code.0.0; table = table.0.0 }, others.0.1) in
+    let t0 = sizes_group.is.takes p sizes.0.1 sizes.0.0 fits sizes.1 in
+    let t1 = bytes_take sizes.0.0.len sizes.0.1 code.0.1 code.0.0 t0.0.rest_fits code.1 in
+    let t2 = (table_read pool).takes code.0.1 table.0.1 table.0.0 t1.0.rest_fits table.1 in
+    let t3 = others_take pool table.0.1 others.0 t2.0.rest_fits others.1 in
+    let bounds = in_range sizes.0.0.len range.0 in
+    let made : CodeItem × Place = (record { max_stack = sizes.0.0.max_stack; max_locals = sizes.0.0.max_locals; code = code.0.0; table = table.0.0 }, others.0.1) in
     let c : CodeItem = made.0 in
-    let counted : Takes locals.0.1 (number4 (length code.0.0)) len.0.1 = subst (λ (n : ℕ). Takes locals.0.1 (number4 n) len.0.1) (sym t3.1) t2.0 in
-    let listing : Takes code.0.1 (listed table_bytes table.0.0) table.0.1 = subst (λ (ts : List TableItem). Takes code.0.1 (listed table_bytes ts) table.0.1) (sym entries.0) t4.took in
-    let two = Takes-then p (number2 stack.0.0) stack.0.1 (number2 locals.0.0) locals.0.1 t0.0 t1.0 in
-    let three = Takes-then p (number2 stack.0.0 ++ number2 locals.0.0) locals.0.1 (number4 (length code.0.0)) len.0.1 two counted in
-    let four = Takes-then p (number2 stack.0.0 ++ number2 locals.0.0 ++ number4 (length code.0.0)) len.0.1 code.0.0 code.0.1 three t3.0 in
-    let five = Takes-then p (number2 stack.0.0 ++ number2 locals.0.0 ++ number4 (length code.0.0) ++ code.0.0) code.0.1 (listed table_bytes table.0.0) table.0.1 four listing in
-    let all : Takes p (code_bytes c t5.attributes) others.0.1 = Takes-then p (number2 stack.0.0 ++ number2 locals.0.0 ++ number4 (length code.0.0) ++ code.0.0 ++ listed table_bytes table.0.0) table.0.1 (listed attribute_bytes t5.attributes) others.0.1 five t5.took in
-    let is : IsCode pool c (code_bytes c t5.attributes) = record {
-      others = t5.attributes;
+    let numbers : List ℕ = sizes_bytes (sizes_of c) in
+    let counted : Takes p numbers sizes.0.1 = subst (λ (n : ℕ). Takes p (number2 c.max_stack ++ number2 c.max_locals ++ number4 n) sizes.0.1) (sym t1.1) t0.0 in
+    let one = Takes-then p numbers sizes.0.1 code.0.0 code.0.1 counted t1.0 in
+    let two = Takes-then p (numbers ++ code.0.0) code.0.1 (listed table_bytes table.0.0) table.0.1 one t2.0 in
+    let all : Takes p (code_bytes c t3.attributes) others.0.1 = Takes-then p (numbers ++ code.0.0 ++ listed table_bytes table.0.0) table.0.1 (listed attribute_bytes t3.attributes) others.0.1 two t3.took in
+    let is : IsCode pool c (code_bytes c t3.attributes) = record {
+      others = t3.attributes;
       spelled = refl;
-      max_stack = t0.1;
-      max_locals = t1.1;
-      some = omega (arith, bounds.0, t3.1);
-      short = omega (arith, bounds.1, t3.1);
-      bytes = t3.2;
-      entries = subst (AllByRecursion (FitsEntry pool)) (sym entries.0) entries.1;
-      count = omega (arith, t4.count, ap length entries.0);
-      attributes = t5.fits;
+      code = record {
+        sizes = record { fits_stack = t0.1.max_stack; fits_locals = t0.1.max_locals; some = omega (arith, bounds.0, t1.1); short = omega (arith, bounds.1, t1.1) };
+        bytes = t1.2;
+        entries = t2.1.0;
+        count = t2.1.1;
+      };
+      attributes = t3.fits;
     } in
-    subst (λ (z : CodeItem × Place). IsCodeTaken pool p z) (ok_is made z others.2) (record { contents = code_bytes c t5.attributes; took = all; is = is })
+    subst (λ (z : CodeItem × Place). IsCodeTaken pool p z) (ok_is made z others.2) (record { contents = code_bytes c t3.attributes; took = all; is = is })
 
 pub contents_again : (pool : List PoolItem) (m : ℕ) (c : CodeItem) (contents : List ℕ) (t : ℕ) (rest : List ℕ) → IsCode pool c contents → code_contents_at pool m (at t (contents ++ rest)) ≡ Ok (c, at t rest)
 unfolding code_contents_at
 contents_again pool m c contents t rest h =
-    ap (λ (bytes : List ℕ). code_contents_at pool m (at t (bytes ++ rest))) h.spelled
-    ∙ ap (λ (bytes : List ℕ). code_contents_at pool m (at t bytes)) (regroup6 (number2 c.max_stack) (number2 c.max_locals) (number4 (length c.code)) c.code (listed table_bytes c.table) (listed attribute_bytes h.others) rest)
-    ∙ (let others_rest : List ℕ = listed attribute_bytes h.others ++ rest in
+    let sizes : CodeSizes = sizes_of c in
+    let fits : FitsCodeSizes sizes = record { max_stack = h.code.sizes.fits_stack; max_locals = h.code.sizes.fits_locals; len = omega (arith, h.code.sizes.short) } in
+    let others_rest : List ℕ = listed attribute_bytes h.others ++ rest in
     let table_rest : List ℕ = listed table_bytes c.table ++ others_rest in
     let code_rest : List ℕ = c.code ++ table_rest in
-    let len_rest : List ℕ = number4 (length c.code) ++ code_rest in
-    let locals_rest : List ℕ = number2 c.max_locals ++ len_rest in
-    bind_then (number_at w16 (at t (number2 c.max_stack ++ locals_rest))) (c.max_stack, at t locals_rest) _ _ (read2.again c.max_stack t locals_rest h.max_stack)
-    (bind_then (number_at w16 (at t locals_rest)) (c.max_locals, at t len_rest) _ _ (read2.again c.max_locals t len_rest h.max_locals)
-    (bind_then (number_at w32 (at t len_rest)) (length c.code, at t code_rest) _ _ (read4.again (length c.code) t code_rest (omega (arith, h.short)))
-    (need_then (nat_lt 0 (length c.code) && nat_lt (length c.code) 65536) _ _ _ (is_in_range (length c.code) h.some h.short)
+    ap (λ (bytes : List ℕ). code_contents_at pool m (at t (bytes ++ rest))) h.spelled
+    ∙ ap (λ (bytes : List ℕ). code_contents_at pool m (at t bytes)) (regroup4 (sizes_bytes sizes) c.code (listed table_bytes c.table) (listed attribute_bytes h.others) rest)
+    ∙ bind_then (sizes_at (at t (sizes_bytes sizes ++ code_rest))) (sizes, at t code_rest) _ _ (sizes_group.is.again sizes t code_rest fits)
+    (need_then (nat_lt 0 (length c.code) && nat_lt (length c.code) 65536) _ _ _ (is_in_range (length c.code) h.code.sizes.some h.code.sizes.short)
     (bind_then (bytes_at (length c.code) (at t code_rest)) (c.code, at t table_rest) _ _ (bytes_again c.code table_rest t)
-    (bind_then (listed_at (table_item_at pool) (at t table_rest)) (c.table, at t others_rest) _ _ (items_again (table_item_at pool) table_bytes (Itself (FitsEntry pool)) (entry pool) c.table c.table t others_rest (itself_of (FitsEntry pool) [] c.table h.entries) h.count)
-    (bind_then (counted_at (other_at pool) tt (at t others_rest)) (tt, at t rest) _ _ (others_again pool h.others t rest h.attributes) refl)))))))
+    (bind_then (listed_at (table_item_at pool) (at t table_rest)) (c.table, at t others_rest) _ _ ((table_read pool).again c.table t others_rest (h.code.entries, h.code.count))
+    (bind_then (counted_at (other_at pool) tt (at t others_rest)) (tt, at t rest) _ _ (others_again pool h.others t rest h.attributes) refl))))
 
 -- ---- contents of the length that is said
 

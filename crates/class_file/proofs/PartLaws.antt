@@ -9,7 +9,7 @@ use Rattle.class_file.specs.declared.error.ClassErr.{ClassErr}
 use Rattle.class_format.specs.Meaning.{AreBytes, Spelled}
 use Rattle.class_file.specs.Reading.{Place, number_at, each_at, counted_at, adding, listed_at}
 use Rattle.class_format.specs.Spelling.{number2, listed}
-use Rattle.class_file.proofs.ReadLaws.{at, Takes, takes_none, Takes-then, read2}
+use Rattle.class_file.proofs.ReadLaws.{at, Takes, takes_none, Takes-then, IsRead, read2}
 
 -- a source that leads from one state to another, and was taken
 pub record Took {S A : Type 0} (bytes : A → List ℕ) (Leads : S → A → S → Type 0) (s : S) (p : Place) (z : S × Place) : Type 0 where
@@ -156,3 +156,21 @@ spelled_long Is earlier [] [] h = refl
 spelled_long Is earlier [] (x ∷ xs) h = absurd h
 spelled_long Is earlier (a ∷ sources) [] h = absurd h
 spelled_long Is earlier (a ∷ sources) (x ∷ xs) h = ap suc (spelled_long Is (earlier ++ x ∷ []) sources xs h.1)
+
+module _ {X : Type 0} (item : List X → Place → Result (X × Place) ClassErr) (bytes : X → List ℕ) (Fits : X → Type 0) where
+  -- items that are read alike whatever is before them
+  pub itself_item : ((earlier : List X) → IsRead (item earlier) bytes Fits) → IsItem item bytes (Itself Fits)
+  itself_item read = record {
+    takes = λ earlier p z fits e. let t = (read earlier).takes p z.1 z.0 fits e in record { a = z.0; is = (refl, t.1); took = t.0 };
+    again = λ earlier a x n rest h. (read earlier).again a n rest h.1 ∙ ap (λ (y : X). Ok (y, at n rest)) (sym h.0);
+  }
+
+  -- a list of them, read whole
+  pub same_read : IsItem item bytes (Itself Fits) → IsRead (listed_at item) (listed bytes) (λ xs. AllByRecursion Fits xs × (length xs < 2 ^ 16))
+  same_read is = record {
+    takes = λ p q xs fits e.
+        let t = items_take item bytes (Itself Fits) is p (xs, q) fits e in
+        let k = itself_is Fits [] t.sources xs t.spelled in
+        subst (λ (ys : List X). Takes p (listed bytes ys) q × (AllByRecursion Fits ys × (length ys < 2 ^ 16))) (sym k.0) (t.took, (k.1, t.count));
+    again = λ xs t rest fits. items_again item bytes (Itself Fits) is xs xs t rest (itself_of Fits [] xs fits.0) fits.1;
+  }

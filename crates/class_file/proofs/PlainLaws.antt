@@ -19,7 +19,7 @@ use Rattle.class_format.specs.declared.class.MethodItem.{MethodItem}
 use Rattle.class_format.specs.Flags.{is_static}
 use Rattle.constant_pool.specs.Items.{text_of, text_at, is_text_that}
 use Rattle.class_format.specs.Meaning.{FitsAttribute, AreAttributes, IsField, IsMethod, IsCode, IsConstant, HasCode, Means, Spelled, contents_of, keeps_constant, holds_code, lowest_that, constant_attributes, code_attributes, plain_field, plain_method, plain, IsClass}
-use Rattle.constant_pool.specs.KnownTexts.{is_code, is_constant_value}
+use Rattle.class_format.specs.KnownTexts.{is_code, is_constant_value}
 use Rattle.class_format.specs.Spelling.{Attribute, Member, Source, number2, number4, listed, attribute_bytes, table_bytes, code_bytes}
 use Rattle.class_file.proofs.KeptLaws.{contents_cons}
 use Rattle.class_file.proofs.PartLaws.{spelled_long}
@@ -97,7 +97,7 @@ field_is_plain pool earlier m f count h =
     let constant = plain_constant pool m.flags m.desc f.constant m.attributes count h.constant in
     let same : Member = record { flags = m.flags; name = m.name; desc = m.desc; attributes = constant_attributes pool f.constant } in
     let is : IsField pool earlier same f = record {
-      member = record { flags = h.member.flags; name = h.member.name; desc = h.member.desc; named = h.member.named; typed = h.member.typed; plain = h.member.plain; attributes = constant.attributes };
+      member = record { head = h.member.head; attributes = constant.attributes };
       new = h.new;
       flags = h.flags;
       name = h.name;
@@ -136,17 +136,11 @@ plain_code pool flags (Some c) attributes count h =
     let one = has_one (holds_code pool) attributes h.1 [] h.2 in
     let stands : lowest_that is_code pool < length pool = lowest_stands is_code pool one.a.name one.passes in
     let a : Attribute = record { name = lowest_that is_code pool; contents = code_bytes c [] } in
-    let long : length (code_bytes c []) < 2 ^ 32 = omega (arith, code_long c, h.3.short, h.3.count) in
+    let long : length (code_bytes c []) < 2 ^ 32 = omega (arith, code_long c, h.3.code.sizes.short, h.3.code.count) in
     let is : IsCode pool c (code_bytes c []) = record {
       others = [];
       spelled = refl;
-      max_stack = h.3.max_stack;
-      max_locals = h.3.max_locals;
-      some = h.3.some;
-      short = h.3.short;
-      bytes = h.3.bytes;
-      entries = h.3.entries;
-      count = h.3.count;
+      code = h.3.code;
       attributes = (tt, omega arith);
     } in
     record {
@@ -159,7 +153,7 @@ method_is_plain pool earlier m x count h =
     let code = plain_code pool m.flags x.code m.attributes count h.code in
     let same : Member = record { flags = m.flags; name = m.name; desc = m.desc; attributes = code_attributes pool x.code } in
     let is : IsMethod pool earlier same x = record {
-      member = record { flags = h.member.flags; name = h.member.name; desc = h.member.desc; named = h.member.named; typed = h.member.typed; plain = h.member.plain; attributes = code.attributes };
+      member = record { head = h.member.head; attributes = code.attributes };
       new = h.new;
       flags = h.flags;
       name = h.name;
@@ -204,23 +198,9 @@ is_class s c h =
       this_class = h.this_class;
       super_class = h.super_class;
       interfaces = h.interfaces;
-      fields = fields_are_plain s.pool [] s.fields c.fields h.front.count h.fields;
-      methods = methods_are_plain s.pool [] s.methods c.methods h.front.count h.methods;
-      front = record {
-        fits_minor = h.front.fits_minor;
-        fits_major = h.front.fits_major;
-        version = h.front.version;
-        items = h.front.items;
-        count = h.front.count;
-        links = h.front.links;
-        fits_flags = h.front.fits_flags;
-        plain = h.front.plain;
-        this_link = h.front.this_link;
-        fits_super = h.front.fits_super;
-        super_link = h.front.super_link;
-        interface_links = h.front.interface_links;
-        interface_count = h.front.interface_count;
-      };
+      fields = fields_are_plain s.pool [] s.fields c.fields h.front.pool.count h.fields;
+      methods = methods_are_plain s.pool [] s.methods c.methods h.front.pool.count h.methods;
+      front = record { version = h.front.version; pool = h.front.pool; links = h.front.links; names = h.front.names };
       field_count = omega (arith, h.field_count, long_fields);
       method_count = omega (arith, h.method_count, long_methods);
       attributes = (tt, omega arith);

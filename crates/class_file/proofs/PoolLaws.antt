@@ -1,5 +1,5 @@
 -- A pool that is read is the pool that is spelled.
-use Rattle.std.proofs.Common.{◌≡◌, ℕ, zero, suc, ◌+◌, ◌-◌, ◌^◌, ◌<◌, ◌≤◌, Bool, true, false, cond, eqb, ltb, nat_lt, List, [], ◌∷◌, ◌++◌, length, Some, Result, Ok, refl, sym, ap, subst, ◌∙◌, inl, inr, append_assoc, arith, ℤ, pos, FitsSigned, slice_get, length-append}
+use Rattle.std.proofs.Common.{◌≡◌, ℕ, zero, suc, ◌+◌, ◌-◌, ◌^◌, ◌<◌, ◌≤◌, Bool, true, false, cond, eqb, ltb, nat_lt, List, [], ◌∷◌, ◌++◌, length, Option, Some, Result, Ok, refl, sym, ap, subst, ◌∙◌, inl, inr, append_assoc, arith, ℤ, pos, FitsSigned, slice_get, length-append}
 use lib.IntN.{negsuc}
 use mir.Val.{sel, hbits, bits}
 use borrow.Author.Tests.{ltb-true}
@@ -9,6 +9,7 @@ use Rattle.std.proofs.lemmas.Int.{of_z-to_z, to_z-of_z}
 use Rattle.std.proofs.lemmas.List.Concat.{flat_map-cons}
 use Rattle.std.specs.Int.{Width, w8, w16, w32, w64, to_be_bytes, cast_signed, cast_unsigned}
 use Rattle.std.specs.List.{flat_map}
+use Rattle.std.specs.Option.{option_map_or}
 use Rattle.jvm_base.proofs.Texts.{text_reader}
 use Rattle.jvm_base.specs.declared.pool.PoolItem.{PoolItem}
 use Rattle.jvm_base.specs.declared.pool.PoolItem.TheVariants.{Gap, Utf8, Integer, Float, Long, Double, Class, Text, Field, Method, InterfaceMethod, NameAndKind}
@@ -21,7 +22,7 @@ use Rattle.constant_pool.specs.Items.{is_class_at}
 use Rattle.constant_pool.specs.Links.{bad_link}
 use Rattle.class_format.specs.Meaning.{AreBytes, FitsItem, AreItems, IsPool, Spelled}
 use Rattle.constant_pool.specs.Items.{is_wide}
-use Rattle.class_file.specs.PoolReading.{is_wide_there, is_after_wide, text_item_at, number_item_at, wide_item_at, two_indices_at, pair_item_at, content_at, item_at, next_item_at, pool_at}
+use Rattle.class_file.specs.PoolReading.{is_after_wide, text_item_at, number_item_at, wide_item_at, two_indices_at, pair_item_at, content_at, item_at, next_item_at, pool_at}
 use Rattle.class_file.specs.Reading.{Place, ◌>>=◌, want, number_at, bytes_at, each_at, adding}
 use Rattle.class_format.specs.Spelling.{number2, number4, number8, item_bytes}
 use Rattle.class_file.proofs.PartLaws.{Lead, spelled_long, IsItem, Adds, adds, all_take, all_again, spelled_of, lead_of}
@@ -218,7 +219,7 @@ last_is (y ∷ front) x = last_is front x
 pub after_is : (front : List PoolItem) (x : PoolItem) → is_after_wide (front ++ x ∷ []) ≡ is_wide x
 after_is front x =
     let k : length (front ++ x ∷ []) - 1 ≡ length front = omega (arith, length-append front (x ∷ [])) in
-    ap (λ (i : ℕ). is_wide_there (slice_get (front ++ x ∷ []) i)) k ∙ ap is_wide_there (last_is front x)
+    ap (λ (i : ℕ). option_map_or is_wide (slice_get (front ++ x ∷ []) i) false) k ∙ ap (λ (o : Option PoolItem). option_map_or is_wide o false) (last_is front x)
 
 room_of : (b : Bool) (count i : ℕ) (x : PoolItem) → NextBy b count i x → is_wide x ≡ true → nat_lt (i + 1) count ≡ true
 room_of true count i x h w = let k : is_wide Gap ≡ true = subst (λ (y : PoolItem). is_wide y ≡ true) h w in absurd cc

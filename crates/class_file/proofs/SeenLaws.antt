@@ -13,7 +13,7 @@ use Rattle.class_format.specs.declared.member_kind.MemberKind.{MemberKind}
 use Rattle.class_format.proofs.KeyLaws.{same_key}
 use Rattle.class_file.specs.Seen.{HasSeen}
 use Rattle.class_file.specs.declared.error.ClassErr.TheVariants.{Twice}
-use Rattle.class_file.specs.declared.head.Head.{Head}
+use Rattle.class_format.specs.declared.member_kind.MemberHead.{MemberHead}
 use Rattle.class_file.specs.MemberReading.{head_at, new_head_at}
 use Rattle.class_file.specs.Reading.{Place, offset_of}
 
@@ -41,10 +41,10 @@ pub was_new : (added seen : Bool) → added ≡ not seen → added ≡ true → 
 was_new added true e f = absurd cc
 was_new added false e f = refl
 
-pub is_twice : (kind : MemberKind) (pool : List PoolItem) (keys : List (ℕ × ℕ)) (p : Place) (h : Head) (q : Place) → head_at kind pool p ≡ Ok (h, q) → is_among pool keys h.name h.desc ≡ true → new_head_at kind pool keys p ≡ Err (Twice (offset_of p))
+pub is_twice : (kind : MemberKind) (pool : List PoolItem) (keys : List (ℕ × ℕ)) (p : Place) (h : MemberHead) (q : Place) → head_at kind pool p ≡ Ok (h, q) → is_among pool keys h.name h.desc ≡ true → new_head_at kind pool keys p ≡ Err (Twice (offset_of p))
 unfolding new_head_at
 is_twice kind pool keys p h q e twice = rw (e, twice) refl
 
-pub is_new : (kind : MemberKind) (pool : List PoolItem) (keys : List (ℕ × ℕ)) (p : Place) (h : Head) (q : Place) → head_at kind pool p ≡ Ok (h, q) → is_among pool keys h.name h.desc ≡ false → new_head_at kind pool keys p ≡ Ok (h, q)
+pub is_new : (kind : MemberKind) (pool : List PoolItem) (keys : List (ℕ × ℕ)) (p : Place) (h : MemberHead) (q : Place) → head_at kind pool p ≡ Ok (h, q) → is_among pool keys h.name h.desc ≡ false → new_head_at kind pool keys p ≡ Ok (h, q)
 unfolding new_head_at
 is_new kind pool keys p h q e new = rw (e, new) refl

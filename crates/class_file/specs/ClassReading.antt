@@ -8,6 +8,7 @@ use Rattle.class_format.specs.declared.class.ClassFile.{ClassFile}
 use Rattle.class_file.specs.declared.class_reader.Members.{Members}
 use Rattle.class_file.specs.declared.class_reader.Names.{Names}
 use Rattle.class_format.specs.Flags.{class_flags_clash}
+use Rattle.class_format.specs.Spelling.{magic_number}
 use Rattle.class_format.specs.Versions.{is_other_version}
 use Rattle.constant_pool.specs.Items.{is_class_at}
 use Rattle.constant_pool.specs.Links.{bad_link}
@@ -17,15 +18,21 @@ use Rattle.class_file.specs.Reading.{Place, offset_of, ◌>>=◌, need, number_a
 
 -- ---- versions
 
--- the magic, and a version that is read: minor, major
+-- the numbers of a version: minor, major
+unfoldable pub version_numbers_at : Place → Result ((ℕ × ℕ) × Place) ClassErr
+version_numbers_at p = do
+  minor ← number_at w16 p
+  major ← number_at w16 minor.1
+  Ok ((minor.0, major.0), major.1)
+
+-- the magic, and a version that is read
 unfoldable pub version_at : Place → Result ((ℕ × ℕ) × Place) ClassErr
 version_at p = do
   magic ← number_at w32 p
-  _ ← need (nat_eq magic.0 3405691582) Magic
-  minor ← number_at w16 magic.1
-  major ← number_at w16 minor.1
-  _ ← need (not (is_other_version major.0 minor.0)) (Version major.0 minor.0)
-  Ok ((minor.0, major.0), major.1)
+  _ ← need (nat_eq magic.0 magic_number) Magic
+  v ← version_numbers_at magic.1
+  _ ← need (not (is_other_version v.0.1 v.0.0)) (Version v.0.1 v.0.0)
+  Ok v
 
 -- ---- the linked pool
 

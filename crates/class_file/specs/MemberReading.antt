@@ -7,16 +7,17 @@ use Rattle.jvm_base.specs.declared.pool.PoolItem.{PoolItem}
 use Rattle.class_file.specs.declared.error.ClassErr.{ClassErr}
 use Rattle.class_file.specs.declared.error.ClassErr.TheVariants.{ItemLink, Flags, AttrLength, CodeLength, CodeCount, Twice}
 use Rattle.class_file.specs.declared.attribute.AttributeHead.{AttributeHead}
+use Rattle.class_file.specs.declared.code.CodeSizes.{CodeSizes}
 use Rattle.class_format.specs.declared.class.FieldItem.{FieldItem}
 use Rattle.class_format.specs.declared.class.MethodItem.{MethodItem}
-use Rattle.class_file.specs.declared.head.Head.{Head}
+use Rattle.class_format.specs.declared.member_kind.MemberHead.{MemberHead}
 use Rattle.class_format.specs.declared.member_kind.MemberKind.{MemberKind}
 use Rattle.class_format.specs.declared.member_kind.MemberKind.TheVariants.{Field, Method}
 use Rattle.class_format.specs.Flags.{is_static}
 use Rattle.constant_pool.specs.Items.{is_text_at, is_text_that, is_class_at}
-use Rattle.constant_pool.specs.KnownTexts.{is_named, is_code, is_constant_value, is_constant_at}
+use Rattle.class_format.specs.KnownTexts.{is_named, is_code, is_constant_value, is_constant_at}
 use Rattle.class_format.specs.Members.{is_without_receiver, is_desc_of, flags_clash, is_among, field_keys, method_keys, code_count}
-use Rattle.class_file.specs.Reading.{Place, offset_of, ◌>>=◌, need, number_at, bytes_at, counted_at, listed_at}
+use Rattle.class_file.specs.Reading.{Place, offset_of, after, ◌>>=◌, need, number_at, bytes_at, counted_at, listed_at}
 
 -- ---- attributes
 
@@ -42,19 +43,25 @@ other_at pool s p = do
 
 -- ---- what fields and methods begin with
 
--- flags, name and descriptor of a field or method; all three are read before the first is asked
-unfoldable pub head_at : MemberKind → List PoolItem → Place → Result (Head × Place) ClassErr
-head_at kind pool p = do
+-- flags, name and descriptor of a field or method
+unfoldable pub head_numbers_at : Place → Result (MemberHead × Place) ClassErr
+head_numbers_at p = do
   flags ← number_at w16 p
   name ← number_at w16 flags.1
   desc ← number_at w16 name.1
-  _ ← need (is_text_that is_named pool name.0) (ItemLink (offset_of flags.1))
-  _ ← need (is_desc_of kind (is_without_receiver pool flags.0 name.0) pool desc.0) (ItemLink (offset_of name.1))
-  _ ← need (not (flags_clash kind (is_without_receiver pool flags.0 name.0) flags.0)) (Flags (offset_of p))
   Ok (record { flags = flags.0; name = name.0; desc = desc.0 }, desc.1)
 
+-- all three are read before the first is asked
+unfoldable pub head_at : MemberKind → List PoolItem → Place → Result (MemberHead × Place) ClassErr
+head_at kind pool p = do
+  h ← head_numbers_at p
+  _ ← need (is_text_that is_named pool h.0.name) (ItemLink (offset_of (after 2 p)))
+  _ ← need (is_desc_of kind (is_without_receiver pool h.0.flags h.0.name) pool h.0.desc) (ItemLink (offset_of (after 4 p)))
+  _ ← need (not (flags_clash kind (is_without_receiver pool h.0.flags h.0.name) h.0.flags)) (Flags (offset_of p))
+  Ok h
+
 -- the earlier ones are of the same kind
-unfoldable pub new_head_at : MemberKind → List PoolItem → List (ℕ × ℕ) → Place → Result (Head × Place) ClassErr
+unfoldable pub new_head_at : MemberKind → List PoolItem → List (ℕ × ℕ) → Place → Result (MemberHead × Place) ClassErr
 new_head_at kind pool earlier p = do
   head ← head_at kind pool p
   _ ← need (not (is_among pool earlier head.0.name head.0.desc)) (Twice (offset_of p))
@@ -72,7 +79,7 @@ constant_at pool desc kept a p = do
   Ok (Some value.0, value.1)
 
 -- only a static field keeps its constant
-unfoldable pub field_attribute_at : List PoolItem → Head → Option ℕ → Place → Result (Option ℕ × Place) ClassErr
+unfoldable pub field_attribute_at : List PoolItem → MemberHead → Option ℕ → Place → Result (Option ℕ × Place) ClassErr
 field_attribute_at pool head kept p = do
   a ← attribute_at pool p
   if is_static head.flags && is_text_that is_constant_value pool a.0.name then constant_at pool head.desc kept a.0 a.1 else skipped_at kept a.0 a.1
@@ -86,27 +93,39 @@ field_at pool earlier p = do
 
 -- ---- methods
 
--- an entry of the exception table; the class 0 stands for any (JVMS2 4.7.3)
-unfoldable pub table_item_at : List PoolItem → List TableItem → Place → Result (TableItem × Place) ClassErr
-table_item_at pool earlier p = do
+-- an entry of the exception table
+unfoldable pub entry_numbers_at : Place → Result (TableItem × Place) ClassErr
+entry_numbers_at p = do
   start ← number_at w16 p
   end ← number_at w16 start.1
   handler ← number_at w16 end.1
   class ← number_at w16 handler.1
-  _ ← need (nat_eq class.0 0 || is_class_at pool class.0) (ItemLink (offset_of handler.1))
   Ok (record { start = start.0; end = end.0; handler = handler.0; class = class.0 }, class.1)
+
+-- its class 0 stands for any (JVMS2 4.7.3)
+unfoldable pub table_item_at : List PoolItem → List TableItem → Place → Result (TableItem × Place) ClassErr
+table_item_at pool earlier p = do
+  t ← entry_numbers_at p
+  _ ← need (nat_eq t.0.class 0 || is_class_at pool t.0.class) (ItemLink (offset_of (after 6 p)))
+  Ok t
+
+-- the numbers that a Code begins with
+unfoldable pub sizes_at : Place → Result (CodeSizes × Place) ClassErr
+sizes_at p = do
+  max_stack ← number_at w16 p
+  max_locals ← number_at w16 max_stack.1
+  len ← number_at w32 max_locals.1
+  Ok (record { max_stack = max_stack.0; max_locals = max_locals.0; len = len.0 }, len.1)
 
 -- the contents of the Code of method m (JVMS2 4.7.3)
 unfoldable pub code_contents_at : List PoolItem → ℕ → Place → Result (CodeItem × Place) ClassErr
 code_contents_at pool m p = do
-  max_stack ← number_at w16 p
-  max_locals ← number_at w16 max_stack.1
-  len ← number_at w32 max_locals.1
-  _ ← need (nat_lt 0 len.0 && nat_lt len.0 65536) (CodeLength m)
-  code ← bytes_at len.0 len.1
+  sizes ← sizes_at p
+  _ ← need (nat_lt 0 sizes.0.len && nat_lt sizes.0.len 65536) (CodeLength m)
+  code ← bytes_at sizes.0.len sizes.1
   table ← listed_at (table_item_at pool) code.1
   others ← counted_at (other_at pool) tt table.1
-  Ok (record { max_stack = max_stack.0; max_locals = max_locals.0; code = code.0; table = table.0 }, others.1)
+  Ok (record { max_stack = sizes.0.max_stack; max_locals = sizes.0.max_locals; code = code.0; table = table.0 }, others.1)
 
 -- contents that take as many bytes as their length says
 unfoldable pub code_at : List PoolItem → ℕ → AttributeHead → Place → Result (CodeItem × Place) ClassErr

@@ -1,5 +1,5 @@
 -- A place in a file.
-use Rattle.std.specs.Prelude.{ℕ, ◌-◌, List, length}
+use Rattle.std.specs.Prelude.{ℕ, ◌-◌, List, length, drop}
 
 -- how long the file is, and what is left of it
 pub record Place : Type 0 where
@@ -9,3 +9,7 @@ pub record Place : Type 0 where
 -- the offset of the next byte
 abbrev pub offset_of : Place → ℕ
 offset_of p = p.total - length p.rest
+
+-- the place after so many bytes
+abbrev pub after : ℕ → Place → Place
+after n p = record { total = p.total; rest = drop n p.rest }

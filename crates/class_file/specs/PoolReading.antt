@@ -1,5 +1,6 @@
 -- The constant pool, read item by item (JVMS2 4.4).
 use Rattle.std.specs.Prelude.{ℕ, ◌+◌, ◌-◌, List, [], ◌∷◌, length, Option, Some, None, Result, Ok, Err, nat_lt, Bool, false, ◌==◌, if◌then◌else◌, slice_get}
+use Rattle.std.specs.Option.{option_map_or}
 use Rattle.std.specs.Int.{Width, w8, w16, w32, w64, cast_signed}
 use Rattle.jvm_base.specs.declared.pool.PoolItem.{PoolItem}
 use Rattle.jvm_base.specs.declared.pool.PoolItem.TheVariants.{Gap, Utf8, Integer, Float, Long, Double, Class, Text, Field, Method, InterfaceMethod, NameAndKind}
@@ -9,14 +10,9 @@ use Rattle.class_file.specs.declared.error.ClassErr.{ClassErr}
 use Rattle.class_file.specs.declared.error.ClassErr.TheVariants.{PoolTag, PoolText}
 use Rattle.class_file.specs.Reading.{Place, ◌>>=◌, need, want, number_at, bytes_at, each_at, adding}
 
--- a wide item is there
-abbrev pub is_wide_there : Option PoolItem → Bool
-is_wide_there None = false
-is_wide_there (Some item) = is_wide item
-
 -- whether the last item so far is a wide one
 abbrev pub is_after_wide : List PoolItem → Bool
-is_after_wide pool = is_wide_there (slice_get pool (length pool - 1))
+is_after_wide pool = option_map_or is_wide (slice_get pool (length pool - 1)) false
 
 -- a text: its length in bytes, and so many bytes of modified UTF-8
 unfoldable pub text_item_at : ℕ → Place → Result (PoolItem × Place) ClassErr

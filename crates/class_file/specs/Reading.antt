@@ -4,7 +4,7 @@ use Rattle.std.specs.Int.{Width, w16, byte_len, from_be_bytes}
 use Rattle.class_file.specs.declared.error.ClassErr.{ClassErr}
 use Rattle.class_file.specs.declared.error.ClassErr.TheVariants.{Cut, NoMemory}
 pub use Rattle.jvm_base.specs.Refusing.{◌>>=◌, need, want}
-pub use Rattle.class_file.specs.Place.{Place, offset_of}
+pub use Rattle.class_file.specs.Place.{Place, offset_of, after}
 
 -- what a function refused with is what reading refuses with; want of memory may come instead
 abbrev pub Fails : {Y : Type 0} → ClassErr → Result Y ClassErr → Type 0
@@ -15,10 +15,6 @@ Fails e read = read ≡ Err e
 abbrev pub Gives : {X Y : Type 0} → (X → Y) → Result X ClassErr → Result Y ClassErr → Type 0
 Gives view (Ok x) read = read ≡ Ok (view x)
 Gives view (Err e) read = Fails e read
-
--- the place after so many bytes
-abbrev pub after : ℕ → Place → Place
-after n p = record { total = p.total; rest = drop n p.rest }
 
 -- so many bytes, and the place after them
 abbrev pub bytes_at : ℕ → Place → Result (List ℕ × Place) ClassErr

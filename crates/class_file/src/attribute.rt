@@ -6,10 +6,10 @@ ghost use Rattle.class_file.specs.MemberReading.{attribute_at, skipped_at, other
 
 use crate::error::ClassErr;
 use crate::reader::Reader;
-use constant_pool::Texts;
+use constant_pool::{Texts, is_text_at};
 
 /// An attribute up to its contents: the index of its name, its length, and the offset of that.
-#[derive(Clone, Copy, Debug, PartialEq, Eq)]
+#[derive(Clone, Copy)]
 pub(crate) struct AttributeHead {
     pub(crate) name: u16,
     pub(crate) len: u32,
@@ -23,7 +23,7 @@ pub(crate) fn next_attribute(reader: &mut Reader, texts: &Texts) -> Result<Attri
 {
     let name_at = reader.offset();
     let name = reader.u2()?;
-    if !texts.is_text(name) {
+    if !is_text_at(texts.items(), name) {
         return Err(ClassErr::ItemLink(name_at));
     }
     let at = reader.offset();

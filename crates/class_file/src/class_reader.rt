@@ -6,7 +6,7 @@ ghost use Rattle.class_format.specs.Meaning.{IsClass, Spells};
 ghost use Rattle.class_format.specs.Versions.{is_other_version};
 ghost use Rattle.class_file.specs.declared.error.ClassErr.{ClassErr as Refusal};
 ghost use Rattle.class_file.specs.Refused.{IsRefused, IsDue};
-ghost use Rattle.class_file.specs.ClassReading.{version_at, class_index_at, super_index_at, interface_at, names_at, members_at, class_body_at, class_at};
+ghost use Rattle.class_file.specs.ClassReading.{version_numbers_at, version_at, class_index_at, super_index_at, interface_at, names_at, members_at, class_body_at, class_at};
 
 use crate::attribute::other_attributes;
 use crate::error::ClassErr;
@@ -15,7 +15,7 @@ use crate::method::methods;
 use crate::pool_reader::pool;
 use crate::reader::Reader;
 use class_format::{ClassFile, FieldItem, MAGIC, MethodItem, class_flags_clash, is_other_version};
-use constant_pool::{TextFacts, Texts, bad_link};
+use constant_pool::{TextFacts, Texts, bad_link, is_class_at};
 use jvm_base::{List, Pool, PoolItem};
 use std::alloc::Global;
 
@@ -36,16 +36,23 @@ struct Members {
     methods: List<MethodItem>,
 }
 
+#[tactic(auto, unfolding(crate::specs::ClassReading::version_numbers_at))]
+fn version_numbers(reader: &mut Reader) -> Result<(u16, u16), ClassErr>
+    ensures { Gives (λ v. ((v.0, v.1), reader.new)) result (version_numbers_at reader.old) }
+{
+    let minor = reader.u2()?;
+    let major = reader.u2()?;
+    Ok((minor, major))
+}
+
 #[tactic(auto, unfolding(crate::specs::ClassReading::version_at))]
 fn version(reader: &mut Reader) -> Result<(u16, u16), ClassErr>
     ensures { Gives (λ v. ((v.0, v.1), reader.new)) result (version_at reader.old) }
 {
-    let magic = reader.u4()?;
-    if magic != MAGIC {
+    if reader.u4()? != MAGIC {
         return Err(ClassErr::Magic);
     }
-    let minor = reader.u2()?;
-    let major = reader.u2()?;
+    let (minor, major) = version_numbers(reader)?;
     if is_other_version(major, minor) {
         return Err(ClassErr::Version(major, minor));
     }
@@ -58,7 +65,7 @@ fn class_index(reader: &mut Reader, texts: &Texts) -> Result<u16, ClassErr>
 {
     let at = reader.offset();
     let class = reader.u2()?;
-    if !texts.is_class(class) {
+    if !is_class_at(texts.items(), class) {
         return Err(ClassErr::ItemLink(at));
     }
     Ok(class)
@@ -70,7 +77,7 @@ fn super_index(reader: &mut Reader, texts: &Texts) -> Result<u16, ClassErr>
 {
     let at = reader.offset();
     let class = reader.u2()?;
-    if class != 0 && !texts.is_class(class) {
+    if class != 0 && !is_class_at(texts.items(), class) {
         return Err(ClassErr::ItemLink(at));
     }
     Ok(class)

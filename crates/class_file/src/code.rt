@@ -3,33 +3,49 @@
 ghost use Rattle.std.specs.Prelude.{◌≡◌, List as Items, IfOk};
 ghost use Rattle.jvm_base.specs.declared.code_item.TableItem.{TableItem as Entry};
 ghost use Rattle.class_file.specs.Reading.{Gives, listed_at};
-ghost use Rattle.class_file.specs.MemberReading.{table_item_at, code_contents_at, code_at};
+ghost use Rattle.class_file.specs.MemberReading.{entry_numbers_at, table_item_at, sizes_at, code_contents_at, code_at};
 
 use crate::attribute::{AttributeHead, other_attributes};
 use crate::error::ClassErr;
 use crate::reader::Reader;
-use constant_pool::Texts;
+use constant_pool::{Texts, is_class_at};
 use jvm_base::{CodeItem, List, NoMemory, TableItem};
 use std::alloc::Global;
 
-#[tactic(auto, unfolding(crate::specs::MemberReading::table_item_at))]
-fn table_item(reader: &mut Reader, texts: &Texts) -> Result<TableItem, ClassErr>
-    ensures { (earlier : Items Entry) → Gives (λ t. (t, reader.new)) result (table_item_at texts.now earlier reader.old) }
+/// The numbers that a Code begins with: how much of a frame it takes, and how long it is.
+#[derive(Clone, Copy)]
+struct CodeSizes {
+    max_stack: u16,
+    max_locals: u16,
+    len: u32,
+}
+
+#[tactic(auto, unfolding(crate::specs::MemberReading::entry_numbers_at))]
+fn entry_numbers(reader: &mut Reader) -> Result<TableItem, ClassErr>
+    ensures { Gives (λ t. (t, reader.new)) result (entry_numbers_at reader.old) }
 {
     let start = reader.u2()?;
     let end = reader.u2()?;
     let handler = reader.u2()?;
-    let class_at = reader.offset();
     let class = reader.u2()?;
-    if class != 0 && !texts.is_class(class) {
-        return Err(ClassErr::ItemLink(class_at));
-    }
     Ok(TableItem {
         start,
         end,
         handler,
         class,
     })
+}
+
+#[tactic(auto, unfolding(crate::specs::MemberReading::table_item_at))]
+fn table_item(reader: &mut Reader, texts: &Texts) -> Result<TableItem, ClassErr>
+    ensures { (earlier : Items Entry) → Gives (λ t. (t, reader.new)) result (table_item_at texts.now earlier reader.old) }
+{
+    let class_at = reader.offset_after(6);
+    let item = entry_numbers(reader)?;
+    if item.class != 0 && !is_class_at(texts.items(), item.class) {
+        return Err(ClassErr::ItemLink(class_at));
+    }
+    Ok(item)
 }
 
 fn table(alloc: Global, reader: &mut Reader, texts: &Texts) -> Result<List<TableItem>, ClassErr>
@@ -52,6 +68,20 @@ fn copied(alloc: Global, bytes: &[u8]) -> Result<List<u8>, NoMemory>
     Ok(List::from_vec(items))
 }
 
+#[tactic(auto, unfolding(crate::specs::MemberReading::sizes_at))]
+fn sizes(reader: &mut Reader) -> Result<CodeSizes, ClassErr>
+    ensures { Gives (λ c. (c, reader.new)) result (sizes_at reader.old) }
+{
+    let max_stack = reader.u2()?;
+    let max_locals = reader.u2()?;
+    let len = reader.u4()?;
+    Ok(CodeSizes {
+        max_stack,
+        max_locals,
+        len,
+    })
+}
+
 #[tactic(auto, unfolding(crate::specs::MemberReading::code_contents_at))]
 fn code_contents(
     alloc: Global,
@@ -61,18 +91,16 @@ fn code_contents(
 ) -> Result<CodeItem, ClassErr>
     ensures { Gives (λ c. (c, reader.new)) result (code_contents_at texts.now method reader.old) }
 {
-    let max_stack = reader.u2()?;
-    let max_locals = reader.u2()?;
-    let len = reader.u4()?;
-    if len == 0 || len > 65535 {
+    let sizes = sizes(reader)?;
+    if sizes.len == 0 || sizes.len > 65535 {
         return Err(ClassErr::CodeLength(method));
     }
-    let code = copied(alloc, reader.take(len)?)?;
+    let code = copied(alloc, reader.take(sizes.len)?)?;
     let table = table(alloc, reader, texts)?;
     other_attributes(reader, texts)?;
     Ok(CodeItem {
-        max_stack,
-        max_locals,
+        max_stack: sizes.max_stack,
+        max_locals: sizes.max_locals,
         code,
         table,
     })

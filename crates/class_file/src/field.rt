@@ -5,14 +5,16 @@ ghost use Rattle.class_format.specs.declared.class.FieldItem.{FieldItem as Item}
 ghost use Rattle.class_file.specs.Reading.{Gives, counted_at, listed_at};
 ghost use Rattle.class_file.specs.Seen.{HasSeen};
 ghost use Rattle.class_format.specs.Members.{field_keys};
-ghost use Rattle.constant_pool.specs.KnownTexts.{is_constant_at};
+ghost use Rattle.class_format.specs.KnownTexts.{is_constant_at};
 ghost use Rattle.class_file.specs.MemberReading.{constant_at, field_attribute_at, field_at};
 
 use crate::attribute::{AttributeHead, next_attribute};
 use crate::error::ClassErr;
-use crate::head::{Head, new_head};
+use crate::head::new_head;
 use crate::reader::Reader;
-use class_format::{FieldItem, MemberKind, STATIC, has_flag};
+use class_format::{
+    FieldItem, MemberHead, MemberKind, STATIC, has_flag, is_constant_at, is_constant_value,
+};
 use constant_pool::Texts;
 use jvm_base::List;
 use std::alloc::Global;
@@ -33,7 +35,7 @@ fn constant(
     }
     let value_at = reader.offset();
     let value = reader.u2()?;
-    if !texts.is_constant(desc, value) {
+    if !is_constant_at(texts.items(), desc, value) {
         return Err(ClassErr::ItemLink(value_at));
     }
     if attribute.len != 2 {
@@ -46,20 +48,24 @@ fn constant(
 fn field_attribute(
     reader: &mut Reader,
     texts: &Texts,
-    head: Head,
+    head: MemberHead,
     kept: Option<u16>,
 ) -> Result<Option<u16>, ClassErr>
     ensures { Gives (λ k. (k, reader.new)) result (field_attribute_at texts.now head kept reader.old) }
 {
     let attribute = next_attribute(reader, texts)?;
-    if has_flag(head.flags, STATIC) && texts.is_constant_value(attribute.name) {
+    if has_flag(head.flags, STATIC) && is_constant_value(texts.items(), attribute.name) {
         return constant(reader, texts, head.desc, kept, attribute);
     }
     reader.take(attribute.len)?;
     Ok(kept)
 }
 
-fn field_attributes(reader: &mut Reader, texts: &Texts, head: Head) -> Result<Option<u16>, ClassErr>
+fn field_attributes(
+    reader: &mut Reader,
+    texts: &Texts,
+    head: MemberHead,
+) -> Result<Option<u16>, ClassErr>
     ensures { Gives (λ k. (k, reader.new)) result (counted_at (field_attribute_at texts.now head) None reader.old) }
 {
     let count = reader.u2()?;

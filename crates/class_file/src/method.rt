@@ -12,7 +12,7 @@ use crate::code::code;
 use crate::error::ClassErr;
 use crate::head::new_head;
 use crate::reader::Reader;
-use class_format::{MemberKind, MethodItem, code_count};
+use class_format::{MemberKind, MethodItem, code_count, is_code};
 use constant_pool::Texts;
 use jvm_base::{CodeItem, List};
 use std::alloc::Global;
@@ -45,7 +45,7 @@ fn method_attribute(
     ensures { Gives (λ _. (codes.new, reader.new)) result (method_attribute_at texts.now method codes.old reader.old) }
 {
     let attribute = next_attribute(reader, texts)?;
-    if texts.is_code(attribute.name) {
+    if is_code(texts.items(), attribute.name) {
         return another_code(alloc, reader, texts, method, codes, attribute);
     }
     reader.take(attribute.len)?;

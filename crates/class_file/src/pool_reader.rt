@@ -6,6 +6,7 @@ ghost use Rattle.class_file.specs.PoolReading.{text_item_at, content_at, two_ind
 
 use crate::error::ClassErr;
 use crate::reader::Reader;
+use constant_pool::is_wide;
 use jvm_base::{NameErr, Pool, PoolItem, Units};
 use std::alloc::Global;
 
@@ -87,10 +88,10 @@ fn item(
 fn is_after_wide(pool: &Pool) -> bool
     ensures { result ≡ is_after_wide pool.now }
 {
-    matches!(
-        pool.as_slice().last(),
-        Some(PoolItem::Long(_) | PoolItem::Double(_))
-    )
+    match pool.as_slice().last() {
+        Some(item) => is_wide(item),
+        None => false,
+    }
 }
 
 #[tactic(auto, unfolding(crate::specs::PoolReading::next_item_at))]

@@ -2,7 +2,7 @@
 
 ghost use Rattle.std.specs.Prelude.{◌≡◌, ◌-◌, ◌==◌, ◌≤◌, ◌<◌, ◌^◌, length};
 ghost use Rattle.std.specs.Int.{w8, w16, w32, w64};
-ghost use Rattle.class_file.specs.Reading.{Gives, number_at, bytes_at, offset_of};
+ghost use Rattle.class_file.specs.Reading.{Gives, number_at, bytes_at, offset_of, after};
 
 use crate::error::ClassErr;
 use byteorder::{BigEndian, ByteOrder};
@@ -43,6 +43,13 @@ impl<'a> Reader<'a> {
         ensures bound { result < 2 ^ 63 }
     {
         (self.total - self.rest.len()) as u64
+    }
+
+    /// The offset so many bytes on, or that of the end.
+    pub(crate) fn offset_after(&self, len: usize) -> u64
+        ensures { result ≡ offset_of (after len self.now) }
+    {
+        (self.total - self.rest.len().saturating_sub(len)) as u64
     }
 
     /// How many bytes are left.

@@ -11,27 +11,17 @@ use Rattle.jvm_base.proofs.Options.{and_parts, not_true}
 use Rattle.class_format.specs.declared.class.ClassFile.{ClassFile}
 use Rattle.class_format.specs.declared.class.FieldItem.{FieldItem}
 use Rattle.class_format.specs.declared.class.MethodItem.{MethodItem}
-use Rattle.class_format.specs.declared.member_kind.MemberKind.{MemberKind}
-use Rattle.class_format.specs.declared.member_kind.MemberKind.TheVariants as kinds
 use Rattle.class_format.specs.Flags.{is_static}
 use Rattle.constant_pool.specs.Items.{text_at, is_text_that, is_item_that}
-use Rattle.constant_pool.specs.KnownTexts.{is_named, is_code, is_constant_value, is_constant_at}
-use Rattle.class_format.specs.Members.{is_without_receiver, is_desc_of, flags_clash, is_among, field_keys, method_keys, field_key, method_key}
+use Rattle.class_format.specs.KnownTexts.{is_code, is_constant_value, is_constant_at}
+use Rattle.class_format.specs.Members.{is_among, field_keys, method_keys, field_key, method_key}
 use Rattle.class_format.specs.Spelling.{Attribute, Member, number2, code_bytes}
-use Rattle.class_format.specs.Meaning.{IsPool, FitsLink, FitsEntry, AreAttributes, contents_of, keeps_constant, holds_code, IsConstant, IsCode, HasCode, IsMember, IsField, IsMethod, Spelled, lowest_that, constant_attributes, code_attributes, plain_field, plain_method, IsClass}
-use Rattle.class_format.specs.Formed.{has_text_that, FormedPool, FitsHead, head_passes, constant_passes, FitsConstant, FormedField, FormedCodeOf, FormedMethod, AreNew, FormedHead, FormedMembers, FormedParts}
+use Rattle.class_format.specs.Meaning.{IsPool, FormedPool, AreAttributes, contents_of, keeps_constant, holds_code, IsConstant, IsCode, HasCode, IsField, IsMethod, Spelled, lowest_that, constant_attributes, code_attributes, plain_field, plain_method, IsClass}
+use Rattle.class_format.specs.Formed.{has_text_that, constant_passes, FitsConstant, FormedField, FormedCodeOf, FormedMethod, AreNew, FormedMembers, FormedParts}
+use Rattle.class_format.proofs.Recursion.{all_of, by_recursion}
 use Rattle.class_format.proofs.Lengths.{code-length}
 
--- ---- lists and tests
-
-pub all_of : {X : Type 0} (P : X → Type 0) (xs : List X) → AllByRecursion P xs → All P xs
-all_of P [] h k d lt = absurd (omega arith)
-all_of P (x ∷ xs) h zero d lt = h.0
-all_of P (x ∷ xs) h (suc k) d lt = all_of P xs h.1 k d (omega arith)
-
-pub by_recursion : {X : Type 0} (P : X → Type 0) (xs : List X) → All P xs → AllByRecursion P xs
-by_recursion P [] h = tt
-by_recursion P (x ∷ xs) h = (h 0 x (omega arith), by_recursion P xs (λ k d lt. h (suc k) d (omega arith)))
+-- ---- tests
 
 joined : (a b : Bool) → a ≡ true → b ≡ true → (a && b) ≡ true
 joined a b h k = rw (h, k) refl
@@ -82,15 +72,6 @@ was_kept false a one e = absurd cc
 
 -- ---- fields
 
-head_is : (kind : MemberKind) (pool : List PoolItem) (m : Member) → FitsHead m.flags m.name m.desc → head_passes kind pool m.flags m.name m.desc ≡ true → AreAttributes pool m.attributes → IsMember kind pool m
-head_is kind pool m fits passes attributes =
-    let last = and_parts (is_text_that is_named pool m.name && is_desc_of kind (is_without_receiver pool m.flags m.name) pool m.desc) (not (flags_clash kind (is_without_receiver pool m.flags m.name) m.flags)) passes in
-    let first = and_parts (is_text_that is_named pool m.name) (is_desc_of kind (is_without_receiver pool m.flags m.name) pool m.desc) last.0 in
-    record { flags = fits.0; name = fits.1; desc = fits.2; named = first.0; typed = first.1; plain = not_true (flags_clash kind (is_without_receiver pool m.flags m.name) m.flags) last.1; attributes = attributes }
-
-head_passed : (kind : MemberKind) (pool : List PoolItem) (m : Member) → IsMember kind pool m → head_passes kind pool m.flags m.name m.desc ≡ true
-head_passed kind pool m is = rw (is.named, is.typed, is.plain) refl
-
 constant_is : (pool : List PoolItem) (flags desc : ℕ) (constant : Option ℕ) → length pool < 2 ^ 16 → FitsConstant constant → constant_passes pool flags desc constant ≡ true → AreAttributes pool (constant_attributes pool constant) × IsConstant pool desc constant (contents_of (keeps_constant pool flags) (constant_attributes pool constant))
 constant_is pool flags desc None few fits e = ((tt, omega arith), refl)
 constant_is pool flags desc (Some value) few fits e =
@@ -111,12 +92,12 @@ constant_passed pool flags desc (Some value) h =
 field_is : (pool : List PoolItem) (earlier : List FieldItem) (f : FieldItem) → length pool < 2 ^ 16 → FormedField pool f → is_among pool (field_keys earlier) f.name f.desc ≡ false → IsField pool earlier (plain_field pool f) f
 field_is pool earlier f few formed new =
     let constant = constant_is pool f.flags f.desc f.constant few formed.fits_constant formed.constant in
-    record { member = head_is kinds.Field pool (plain_field pool f) formed.fits formed.head constant.0; new = new; flags = refl; name = refl; desc = refl; constant = constant.1 }
+    record { member = record { head = formed.head; attributes = constant.0 }; new = new; flags = refl; name = refl; desc = refl; constant = constant.1 }
 
 field_formed : (pool : List PoolItem) (earlier : List FieldItem) (f : FieldItem) → IsField pool earlier (plain_field pool f) f → FormedField pool f
 field_formed pool earlier f is =
     let constant = constant_passed pool f.flags f.desc f.constant is.constant in
-    record { fits = (is.member.flags, is.member.name, is.member.desc); head = head_passed kinds.Field pool (plain_field pool f) is.member; fits_constant = constant.0; constant = constant.1 }
+    record { head = is.member.head; fits_constant = constant.0; constant = constant.1 }
 
 -- ---- methods
 
@@ -125,8 +106,8 @@ code_is pool flags None few h = ((tt, omega arith), (h, refl))
 code_is pool flags (Some c) few h =
     let formed = h.1 in
     let a : Attribute = record { name = lowest_that is_code pool; contents = code_bytes c [] } in
-    let is : IsCode pool c (code_bytes c []) = record { others = []; spelled = refl; max_stack = formed.max_stack; max_locals = formed.max_locals; some = formed.some; short = formed.short; bytes = formed.bytes; entries = by_recursion (FitsEntry pool) c.table formed.entries; count = formed.count; attributes = (tt, omega arith) } in
-    (one_attribute pool is_code (code_bytes c []) few formed.name (omega (arith, code-length c, formed.short, formed.count)), (h.0, code_bytes c [], kept (holds_code pool a) a (lowest is_code pool formed.name).passes, is))
+    let is : IsCode pool c (code_bytes c []) = record { others = []; spelled = refl; code = formed.code; attributes = (tt, omega arith) } in
+    (one_attribute pool is_code (code_bytes c []) few formed.name (omega (arith, code-length c, formed.code.sizes.short, formed.code.count)), (h.0, code_bytes c [], kept (holds_code pool a) a (lowest is_code pool formed.name).passes, is))
 
 code_formed : (pool : List PoolItem) (flags : ℕ) (code : Option CodeItem) → HasCode pool flags code (contents_of (holds_code pool) (code_attributes pool code)) → FormedCodeOf pool flags code
 code_formed pool flags None h = h.0
@@ -134,15 +115,15 @@ code_formed pool flags (Some c) h =
     let is = h.3 in
     let a : Attribute = record { name = lowest_that is_code pool; contents = code_bytes c [] } in
     let there = text_there is_code pool (lowest_that is_code pool) (was_kept (holds_code pool a) a h.1 h.2) in
-    (h.0, record { max_stack = is.max_stack; max_locals = is.max_locals; some = is.some; short = is.short; bytes = is.bytes; entries = all_of (FitsEntry pool) c.table is.entries; count = is.count; name = there })
+    (h.0, record { code = is.code; name = there })
 
 method_is : (pool : List PoolItem) (earlier : List MethodItem) (m : MethodItem) → length pool < 2 ^ 16 → FormedMethod pool m → is_among pool (method_keys earlier) m.name m.desc ≡ false → IsMethod pool earlier (plain_method pool m) m
 method_is pool earlier m few formed new =
     let code = code_is pool m.flags m.code few formed.code in
-    record { member = head_is kinds.Method pool (plain_method pool m) formed.fits formed.head code.0; new = new; flags = refl; name = refl; desc = refl; code = code.1 }
+    record { member = record { head = formed.head; attributes = code.0 }; new = new; flags = refl; name = refl; desc = refl; code = code.1 }
 
 method_formed : (pool : List PoolItem) (earlier : List MethodItem) (m : MethodItem) → IsMethod pool earlier (plain_method pool m) m → FormedMethod pool m
-method_formed pool earlier m is = record { fits = (is.member.flags, is.member.name, is.member.desc); head = head_passed kinds.Method pool (plain_method pool m) is.member; code = code_formed pool m.flags m.code is.code }
+method_formed pool earlier m is = record { head = is.member.head; code = code_formed pool m.flags m.code is.code }
 
 -- ---- all of them
 
@@ -167,7 +148,7 @@ methods_formed pool earlier (m ∷ methods) h =
     ((method_formed pool earlier m h.0, rest.0), (h.0.new, rest.1))
 
 class_is : (c : ClassFile) → FormedPool c.pool → FormedParts c c.pool → IsClass c
-class_is c pool parts = let head = parts.head in let members = parts.members in record {
+class_is c pool parts = let members = parts.members in record {
   minor = refl;
   major = refl;
   pool = refl;
@@ -177,31 +158,11 @@ class_is c pool parts = let head = parts.head in let members = parts.members in 
   interfaces = refl;
   fields = fields_are c.pool [] c.fields pool.count (by_recursion (FormedField c.pool) c.fields members.formed_fields) members.new_fields;
   methods = methods_are c.pool [] c.methods pool.count (by_recursion (FormedMethod c.pool) c.methods members.formed_methods) members.new_methods;
-  front = record {
-    fits_minor = head.fits_minor;
-    fits_major = head.fits_major;
-    version = head.version;
-    items = pool.items;
-    count = pool.count;
-    links = parts.links;
-    fits_flags = head.fits_flags;
-    plain = head.plain;
-    this_link = head.this_link;
-    fits_super = head.fits_super;
-    super_link = head.super_link;
-    interface_links = by_recursion (FitsLink c.pool) c.interfaces head.interface_links;
-    interface_count = head.interface_count;
-  };
+  front = record { version = parts.version; pool = pool; links = parts.links; names = parts.names };
   field_count = omega (arith, length-map c.fields (plain_field c.pool), members.field_count);
   method_count = omega (arith, length-map c.methods (plain_method c.pool), members.method_count);
   attributes = (tt, omega arith);
 }
-
-pool_formed : (c : ClassFile) → IsClass c → FormedPool c.pool
-pool_formed c is = record { items = is.front.items; count = is.front.count }
-
-head_formed : (c : ClassFile) → IsClass c → FormedHead c c.pool
-head_formed c is = record { fits_minor = is.front.fits_minor; fits_major = is.front.fits_major; version = is.front.version; fits_flags = is.front.fits_flags; plain = is.front.plain; this_link = is.front.this_link; fits_super = is.front.fits_super; super_link = is.front.super_link; interface_links = all_of (FitsLink c.pool) c.interfaces is.front.interface_links; interface_count = is.front.interface_count }
 
 members_formed : (c : ClassFile) → IsClass c → FormedMembers c.pool c.fields c.methods
 members_formed c is =
@@ -217,14 +178,14 @@ members_formed c is =
     }
 
 parts_formed : (c : ClassFile) → IsClass c → FormedParts c c.pool
-parts_formed c is = record { links = is.front.links; head = head_formed c is; members = members_formed c is }
+parts_formed c is = record { links = is.front.links; version = is.front.version; names = is.front.names; members = members_formed c is }
 
 -- the parts, asked one after the other of the pool that the class file has
 pub is_class : (c : ClassFile) (pool : List PoolItem) → pool ≡ c.pool → FormedPool pool × FormedParts c pool → IsClass c
 is_class c pool same h = class_is c (subst FormedPool same h.0) (subst (FormedParts c) same h.1)
 
 pub is_formed : (c : ClassFile) (pool : List PoolItem) → pool ≡ c.pool → IsClass c → FormedPool pool × FormedParts c pool
-is_formed c pool same is = (subst FormedPool (sym same) (pool_formed c is), subst (FormedParts c) (sym same) (parts_formed c is))
+is_formed c pool same is = (subst FormedPool (sym same) is.front.pool, subst (FormedParts c) (sym same) (parts_formed c is))
 
 -- a pool begins with a gap
 pub begins : (pool : List PoolItem) → IsPool pool → slice_get pool 0 ≡ Some Gap

@@ -12,18 +12,13 @@ use Rattle.class_format.specs.Versions.{is_other_version}
 use Rattle.class_format.specs.Flags.{is_static, class_flags_clash}
 use Rattle.constant_pool.specs.Items.{is_text_that, is_class_at, is_item_that}
 use Rattle.constant_pool.specs.Links.{bad_link}
-use Rattle.constant_pool.specs.KnownTexts.{is_named, is_code, is_constant_value, is_constant_at}
+use Rattle.class_format.specs.KnownTexts.{is_named, is_code, is_constant_value, is_constant_at}
 use Rattle.class_format.specs.Members.{is_without_receiver, is_desc_of, flags_clash, is_among, code_count, field_key, method_key}
-use Rattle.class_format.specs.Meaning.{FitsEntry, FitsLink, AreItems, IsPool, AreBytes}
+use Rattle.class_format.specs.Meaning.{AreItems, FitsCode, IsHead, IsKnown, AreNames}
 
 -- there is a text that passes
 abbrev pub has_text_that : (List ℕ → Bool) → List PoolItem → Bool
 has_text_that test pool = list_any (is_item_that test) pool
-
--- its items fit, and so does their count
-pub record FormedPool (pool : List PoolItem) : Type 0 where
-  pub items : IsPool pool
-  pub count : length pool < 2 ^ 16
 
 -- an item behind one, where `after_wide` says whether that one was wide, and whether it is wide itself
 abbrev pub Follows : PoolItem → Bool → Option Bool → Type 0
@@ -31,17 +26,6 @@ Follows item after_wide None = (items : List PoolItem) → ¬ AreItems after_wid
 Follows item after_wide (Some wide) = (items : List PoolItem) → AreItems after_wide (item ∷ items) ↔ AreItems wide items
 
 -- ---- fields and methods by themselves
-
--- three numbers of two bytes
-abbrev pub FitsHead : (flags name desc : ℕ) → Type 0
-FitsHead flags name desc = (flags < 2 ^ 16) × (name < 2 ^ 16) × (desc < 2 ^ 16)
-
--- a name, a descriptor and flags that go together
-abbrev pub head_passes : MemberKind → List PoolItem → ℕ → ℕ → ℕ → Bool
-head_passes kind pool flags name desc =
-    is_text_that is_named pool name
-    && is_desc_of kind (is_without_receiver pool flags name) pool desc
-    && not (flags_clash kind (is_without_receiver pool flags name) flags)
 
 -- a constant stands only at a static field, and needs the name of its attribute in the pool
 abbrev pub constant_passes : List PoolItem → ℕ → ℕ → Option ℕ → Bool
@@ -55,20 +39,13 @@ FitsConstant (Some value) = value < 2 ^ 16
 
 -- a field by itself
 pub record FormedField (pool : List PoolItem) (f : FieldItem) : Type 0 where
-  pub fits : FitsHead f.flags f.name f.desc
-  pub head : head_passes kinds.Field pool f.flags f.name f.desc ≡ true
+  pub head : IsHead kinds.Field pool (record { flags = f.flags; name = f.name; desc = f.desc })
   pub fits_constant : FitsConstant f.constant
   pub constant : constant_passes pool f.flags f.desc f.constant ≡ true
 
 -- a code, which needs the name of its attribute in the pool
 pub record FormedCode (pool : List PoolItem) (c : CodeItem) : Type 0 where
-  pub max_stack : c.max_stack < 2 ^ 16
-  pub max_locals : c.max_locals < 2 ^ 16
-  pub some : 0 < length c.code
-  pub short : length c.code < 65536
-  pub bytes : AreBytes c.code
-  pub entries : All (FitsEntry pool) c.table
-  pub count : length c.table < 2 ^ 16
+  pub code : FitsCode pool c
   pub name : has_text_that is_code pool ≡ true
 
 -- the code that these flags ask for, or none
@@ -78,8 +55,7 @@ FormedCodeOf pool flags (Some c) = (code_count flags ≡ 1) × FormedCode pool c
 
 -- a method by itself
 pub record FormedMethod (pool : List PoolItem) (m : MethodItem) : Type 0 where
-  pub fits : FitsHead m.flags m.name m.desc
-  pub head : head_passes kinds.Method pool m.flags m.name m.desc ≡ true
+  pub head : IsHead kinds.Method pool (record { flags = m.flags; name = m.name; desc = m.desc })
   pub code : FormedCodeOf pool m.flags m.code
 
 -- ---- no two alike
@@ -90,19 +66,6 @@ AreNew pool key earlier [] = Unit {0}
 AreNew pool key earlier (x ∷ xs) = (is_among pool (map key earlier) (key x).0 (key x).1 ≡ false) × AreNew pool key (earlier ++ x ∷ []) xs
 
 -- ---- the parts of a class file
-
--- version, flags and the classes that are named
-pub record FormedHead (c : ClassFile) (pool : List PoolItem) : Type 0 where
-  pub fits_minor : c.minor < 2 ^ 16
-  pub fits_major : c.major < 2 ^ 16
-  pub version : is_other_version c.major c.minor ≡ false
-  pub fits_flags : c.flags < 2 ^ 16
-  pub plain : class_flags_clash c.flags ≡ false
-  pub this_link : FitsLink pool c.this_class
-  pub fits_super : c.super_class < 2 ^ 16
-  pub super_link : (nat_eq c.super_class 0 || is_class_at pool c.super_class) ≡ true
-  pub interface_links : All (FitsLink pool) c.interfaces
-  pub interface_count : length c.interfaces < 2 ^ 16
 
 -- fields and methods, each by itself, and no two alike
 pub record FormedMembers (pool : List PoolItem) (fields : List FieldItem) (methods : List MethodItem) : Type 0 where
@@ -116,5 +79,6 @@ pub record FormedMembers (pool : List PoolItem) (fields : List FieldItem) (metho
 -- what is asked beside the pool
 pub record FormedParts (c : ClassFile) (pool : List PoolItem) : Type 0 where
   pub links : bad_link pool ≡ None
-  pub head : FormedHead c pool
+  pub version : IsKnown c.minor c.major
+  pub names : AreNames pool c.flags c.this_class c.super_class c.interfaces
   pub members : FormedMembers pool c.fields c.methods

@@ -12,16 +12,16 @@ use Rattle.jvm_base.specs.Units.{AreUnits}
 use Rattle.class_format.specs.declared.class.ClassFile.{ClassFile}
 use Rattle.class_format.specs.declared.class.FieldItem.{FieldItem}
 use Rattle.class_format.specs.declared.class.MethodItem.{MethodItem}
+use Rattle.class_format.specs.declared.member_kind.MemberHead.{MemberHead}
 use Rattle.class_format.specs.declared.member_kind.MemberKind.{MemberKind}
 use Rattle.class_format.specs.declared.member_kind.MemberKind.TheVariants as kinds
 use Rattle.class_format.specs.Versions.{is_other_version}
 use Rattle.class_format.specs.Flags.{is_static, class_flags_clash}
-use Rattle.constant_pool.specs.Items.{is_text_at, is_text_that, is_class_at, is_item_that}
+use Rattle.constant_pool.specs.Items.{is_text_at, is_text_that, is_class_at, is_item_that, is_wide}
 use Rattle.constant_pool.specs.Links.{bad_link}
-use Rattle.constant_pool.specs.KnownTexts.{is_named, is_code, is_constant_value, is_constant_at}
+use Rattle.class_format.specs.KnownTexts.{is_named, is_code, is_constant_value, is_constant_at}
 use Rattle.class_format.specs.Members.{is_without_receiver, is_desc_of, flags_clash, is_among, field_keys, method_keys, code_count}
-use Rattle.constant_pool.specs.Items.{is_wide}
-use Rattle.class_format.specs.Spelling.{Attribute, Member, Source, number2, code_bytes, source_bytes}
+use Rattle.class_format.specs.Spelling.{Attribute, Member, Source, head_of, number2, code_bytes, source_bytes}
 
 -- ---- the pool
 
@@ -50,6 +50,11 @@ AreItems false (item ∷ items) = FitsItem item × AreItems (is_wide item) items
 abbrev pub IsPool : List PoolItem → Type 0
 IsPool [] = ⊥
 IsPool (item ∷ items) = (item ≡ Gap) × AreItems false items
+
+-- its items fit, and so does their count
+pub record FormedPool (pool : List PoolItem) : Type 0 where
+  pub items : IsPool pool
+  pub count : length pool < 2 ^ 16
 
 -- ---- attributes
 
@@ -84,25 +89,37 @@ IsConstant pool desc (Some value) contents = (contents ≡ number2 value ∷ [])
 abbrev pub AreBytes : List ℕ → Type 0
 AreBytes bytes = (i : ℕ) → get_or bytes i 0 < 256
 
--- an entry of an exception table; the class 0 stands for any
-pub record FitsEntry (pool : List PoolItem) (t : TableItem) : Type 0 where
+-- the numbers of an entry of an exception table
+pub record FitsNumbers (t : TableItem) : Type 0 where
   pub start : t.start < 2 ^ 16
   pub end : t.end < 2 ^ 16
   pub handler : t.handler < 2 ^ 16
   pub class : t.class < 2 ^ 16
+
+-- an entry of an exception table; the class 0 stands for any
+pub record FitsEntry (pool : List PoolItem) (t : TableItem) : Type 0 where
+  pub fits : FitsNumbers t
   pub link : (nat_eq t.class 0 || is_class_at pool t.class) ≡ true
+
+-- the numbers that a code begins with: its last one is how many bytes the code itself takes
+pub record FitsSizes (max_stack max_locals len : ℕ) : Type 0 where
+  pub fits_stack : max_stack < 2 ^ 16
+  pub fits_locals : max_locals < 2 ^ 16
+  pub some : 0 < len
+  pub short : len < 65536
+
+-- a code whatever its attributes
+pub record FitsCode (pool : List PoolItem) (c : CodeItem) : Type 0 where
+  pub sizes : FitsSizes c.max_stack c.max_locals (length c.code)
+  pub bytes : AreBytes c.code
+  pub entries : AllByRecursion (FitsEntry pool) c.table
+  pub count : length c.table < 2 ^ 16
 
 -- contents of a Code attribute, of which the attributes that it has itself are skipped
 pub record IsCode (pool : List PoolItem) (c : CodeItem) (contents : List ℕ) : Type 0 where
   pub others : List Attribute
   pub spelled : contents ≡ code_bytes c others
-  pub max_stack : c.max_stack < 2 ^ 16
-  pub max_locals : c.max_locals < 2 ^ 16
-  pub some : 0 < length c.code
-  pub short : length c.code < 65536
-  pub bytes : AreBytes c.code
-  pub entries : AllByRecursion (FitsEntry pool) c.table
-  pub count : length c.table < 2 ^ 16
+  pub code : FitsCode pool c
   pub attributes : AreAttributes pool others
 
 -- a native or abstract method has no code, and every other method has one
@@ -112,14 +129,22 @@ HasCode pool flags (Some c) contents = (code_count flags ≡ 1) × (one : List �
 
 -- ---- fields and methods
 
+-- three numbers of two bytes
+pub record FitsHead (h : MemberHead) : Type 0 where
+  pub flags : h.flags < 2 ^ 16
+  pub name : h.name < 2 ^ 16
+  pub desc : h.desc < 2 ^ 16
+
+-- what a field or method begins with: a name, a descriptor and flags that go together
+pub record IsHead (kind : MemberKind) (pool : List PoolItem) (h : MemberHead) : Type 0 where
+  pub fits : FitsHead h
+  pub named : is_text_that is_named pool h.name ≡ true
+  pub typed : is_desc_of kind (is_without_receiver pool h.flags h.name) pool h.desc ≡ true
+  pub plain : flags_clash kind (is_without_receiver pool h.flags h.name) h.flags ≡ false
+
 -- what is asked of a field or method, whatever its attributes mean
 pub record IsMember (kind : MemberKind) (pool : List PoolItem) (m : Member) : Type 0 where
-  pub flags : m.flags < 2 ^ 16
-  pub name : m.name < 2 ^ 16
-  pub desc : m.desc < 2 ^ 16
-  pub named : is_text_that is_named pool m.name ≡ true
-  pub typed : is_desc_of kind (is_without_receiver pool m.flags m.name) pool m.desc ≡ true
-  pub plain : flags_clash kind (is_without_receiver pool m.flags m.name) m.flags ≡ false
+  pub head : IsHead kind pool (head_of m)
   pub attributes : AreAttributes pool m.attributes
 
 -- the field that is spelled so behind the earlier ones
@@ -153,21 +178,36 @@ Spelled Is earlier (a ∷ sources) (x ∷ xs) = Is earlier a x × Spelled Is (ea
 abbrev pub FitsLink : List PoolItem → ℕ → Type 0
 FitsLink pool n = (n < 2 ^ 16) × (is_class_at pool n ≡ true)
 
+-- the index of a superclass, or 0
+pub record FitsSuper (pool : List PoolItem) (n : ℕ) : Type 0 where
+  pub fits : n < 2 ^ 16
+  pub link : (nat_eq n 0 || is_class_at pool n) ≡ true
+
+-- flags of a class
+pub record FitsFlags (flags : ℕ) : Type 0 where
+  pub fits : flags < 2 ^ 16
+  pub plain : class_flags_clash flags ≡ false
+
+-- a version that is read
+pub record IsKnown (minor major : ℕ) : Type 0 where
+  pub fits_minor : minor < 2 ^ 16
+  pub fits_major : major < 2 ^ 16
+  pub version : is_other_version major minor ≡ false
+
+-- flags of a class, and the classes that it names
+pub record AreNames (pool : List PoolItem) (flags this_class super_class : ℕ) (interfaces : List ℕ) : Type 0 where
+  pub fits_flags : FitsFlags flags
+  pub this_link : FitsLink pool this_class
+  pub super_link : FitsSuper pool super_class
+  pub interface_links : AllByRecursion (FitsLink pool) interfaces
+  pub interface_count : length interfaces < 2 ^ 16
+
 -- what is asked of a class file up to its fields
 pub record IsFront (s : Source) : Type 0 where
-  pub fits_minor : s.minor < 2 ^ 16
-  pub fits_major : s.major < 2 ^ 16
-  pub version : is_other_version s.major s.minor ≡ false
-  pub items : IsPool s.pool
-  pub count : length s.pool < 2 ^ 16
+  pub version : IsKnown s.minor s.major
+  pub pool : FormedPool s.pool
   pub links : bad_link s.pool ≡ None
-  pub fits_flags : s.flags < 2 ^ 16
-  pub plain : class_flags_clash s.flags ≡ false
-  pub this_link : FitsLink s.pool s.this_class
-  pub fits_super : s.super_class < 2 ^ 16
-  pub super_link : (nat_eq s.super_class 0 || is_class_at s.pool s.super_class) ≡ true
-  pub interface_links : AllByRecursion (FitsLink s.pool) s.interfaces
-  pub interface_count : length s.interfaces < 2 ^ 16
+  pub names : AreNames s.pool s.flags s.this_class s.super_class s.interfaces
 
 -- the class file that is spelled so
 pub record Means (s : Source) (c : ClassFile) : Type 0 where

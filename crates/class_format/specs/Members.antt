@@ -9,7 +9,7 @@ use Rattle.class_format.specs.declared.member_kind.MemberKind.{MemberKind}
 use Rattle.class_format.specs.declared.member_kind.MemberKind.TheVariants.{Field, Method}
 use Rattle.class_format.specs.Flags.{is_static, is_native, is_abstract, field_flags_clash, method_flags_clash}
 use Rattle.constant_pool.specs.Items.{text_at, is_text_that, is_same_text}
-use Rattle.constant_pool.specs.KnownTexts.{is_clinit}
+use Rattle.class_format.specs.KnownTexts.{is_clinit}
 use Rattle.constant_pool.specs.Links.{is_field_text}
 
 -- no receiver comes with a call of a static method, and of `<clinit>` whatever its flags

@@ -7,6 +7,7 @@ use Rattle.jvm_base.specs.declared.code_item.TableItem.{TableItem}
 use Rattle.jvm_base.specs.declared.pool.PoolItem.{PoolItem}
 use Rattle.jvm_base.specs.declared.pool.PoolItem.TheVariants.{Gap, Utf8, Integer, Float, Long, Double, Class, Text, Field, Method, InterfaceMethod, NameAndKind}
 use Rattle.jvm_base.specs.Text.{text_bytes}
+use Rattle.class_format.specs.declared.member_kind.MemberHead.{MemberHead}
 
 -- ---- the structure of a file
 
@@ -22,6 +23,10 @@ pub record Member : Type 0 where
   pub desc : ℕ
   pub attributes : List Attribute
 
+-- what it begins with
+abbrev pub head_of : Member → MemberHead
+head_of m = record { flags = m.flags; name = m.name; desc = m.desc }
+
 -- a class file, its attributes unread
 pub record Source : Type 0 where
   pub minor : ℕ
@@ -36,6 +41,10 @@ pub record Source : Type 0 where
   pub attributes : List Attribute
 
 -- ---- its bytes
+
+-- CA FE BA BE
+abbrev pub magic_number : ℕ
+magic_number = 3405691582
 
 -- two bytes, the most significant first; so the other numbers
 abbrev pub number2 : ℕ → List ℕ
@@ -91,6 +100,6 @@ code_bytes c others = number2 c.max_stack ++ number2 c.max_locals ++ number4 (le
 -- a class file (JVMS2 4.1)
 abbrev pub source_bytes : Source → List ℕ
 source_bytes s =
-    number4 3405691582 ++ number2 s.minor ++ number2 s.major ++ pool_bytes s.pool
+    number4 magic_number ++ number2 s.minor ++ number2 s.major ++ pool_bytes s.pool
     ++ number2 s.flags ++ number2 s.this_class ++ number2 s.super_class ++ listed number2 s.interfaces
     ++ listed member_bytes s.fields ++ listed member_bytes s.methods ++ listed attribute_bytes s.attributes

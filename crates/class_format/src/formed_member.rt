@@ -1,18 +1,21 @@
 //! Whether fields and methods can be spelled.
 
 ghost use Rattle.std.specs.Prelude.{◌≡◌, ◌↔◌, ◌<◌, ◌^◌, length, true, IsTrue, All};
-ghost use Rattle.jvm_base.specs.declared.code_item.CodeItem.{CodeItem as Code};
+ghost use Rattle.std.specs.List.{AllByRecursion};
 ghost use Rattle.class_format.specs.Flags.{is_static};
 ghost use Rattle.constant_pool.specs.Items.{text_of, is_text_that};
-ghost use Rattle.constant_pool.specs.KnownTexts.{is_named, is_code, is_clinit, is_constant_value, is_constant_at, is_the_text};
+ghost use Rattle.class_format.specs.KnownTexts.{is_named, is_code, is_constant_value, is_constant_at};
 ghost use Rattle.class_format.specs.Members.{is_without_receiver, is_desc_of, flags_clash, code_count};
-ghost use Rattle.class_format.specs.Meaning.{FitsEntry, AreBytes, lowest_that};
-ghost use Rattle.class_format.specs.Formed.{has_text_that, head_passes, constant_passes, FitsHead, FitsConstant, FormedField, FormedCode, FormedCodeOf, FormedMethod};
+ghost use Rattle.class_format.specs.Meaning.{AreBytes, FitsEntry, FitsSizes, IsHead};
+ghost use Rattle.class_format.specs.Formed.{has_text_that, constant_passes, FitsConstant, FormedField, FormedCode, FormedCodeOf, FormedMethod};
 
 use crate::class::{COUNT_LIMIT, FieldItem, MethodItem};
 use crate::flags::{STATIC, has_flag};
-use crate::member_kind::{MemberKind, code_count, flags_clash, is_desc_of, is_without_receiver};
-use constant_pool::Texts;
+use crate::known_texts::{is_constant_at, is_named};
+use crate::member_kind::{
+    MemberHead, MemberKind, code_count, flags_clash, is_desc_of, is_without_receiver,
+};
+use constant_pool::{Texts, is_class_at};
 use jvm_base::{CodeItem, TableItem};
 
 /// Which names of attributes the pool has.
@@ -22,14 +25,13 @@ pub(crate) struct AttributeNames {
     pub(crate) code: bool,
 }
 
-fn head_passes(texts: &Texts, kind: MemberKind, flags: u16, name: u16, desc: u16) -> bool
-    ensures passes { result ≡ head_passes kind texts.now flags name desc }
-    ensures fits { FitsHead flags name desc }
+fn is_head(texts: &Texts, kind: MemberKind, head: MemberHead) -> bool
+    ensures { IsTrue result ↔ IsHead kind texts.now head }
 {
-    let without_receiver = is_without_receiver(texts, flags, name);
-    texts.is_named(name)
-        && is_desc_of(texts, kind, without_receiver, desc)
-        && !flags_clash(kind, without_receiver, flags)
+    let without_receiver = is_without_receiver(texts, head.flags, head.name);
+    is_named(texts.items(), head.name)
+        && is_desc_of(texts, kind, without_receiver, head.desc)
+        && !flags_clash(kind, without_receiver, head.flags)
 }
 
 fn constant_passes(
@@ -46,7 +48,9 @@ fn constant_passes(
     match constant {
         None => true,
         Some(value) => {
-            has_flag(flags, STATIC) && names.constant_value && texts.is_constant(desc, value)
+            has_flag(flags, STATIC)
+                && names.constant_value
+                && is_constant_at(texts.items(), desc, value)
         }
     }
 }
@@ -55,15 +59,13 @@ fn is_formed_field(texts: &Texts, names: AttributeNames, field: &FieldItem) -> b
     requires { names.constant_value ≡ has_text_that is_constant_value texts.now }
     ensures { IsTrue result ↔ FormedField texts.now field.now }
 {
-    let head = head_passes(
-        texts,
-        MemberKind::Field,
-        field.flags,
-        field.name,
-        field.desc,
-    );
+    let head = MemberHead {
+        flags: field.flags,
+        name: field.name,
+        desc: field.desc,
+    };
     let constant = constant_passes(texts, names, field.flags, field.desc, field.constant);
-    head && constant
+    is_head(texts, MemberKind::Field, head) && constant
 }
 
 /// Whether each field can be spelled, but for those alike.
@@ -79,28 +81,27 @@ pub(crate) fn are_formed_fields(texts: &Texts, names: AttributeNames, fields: &[
     true
 }
 
-fn is_entry(texts: &Texts, item: &TableItem) -> bool
-    ensures { IsTrue result ↔ FitsEntry texts.now item.now }
+fn is_entry(texts: &Texts, item: TableItem) -> bool
+    ensures { IsTrue result ↔ FitsEntry texts.now item }
 {
-    let _start = item.start;
-    let _end = item.end;
-    let _handler = item.handler;
-    item.class == 0 || texts.is_class(item.class)
+    item.class == 0 || is_class_at(texts.items(), item.class)
 }
 
+#[tactic(auto, using(crate::proofs::Recursion::all_of, crate::proofs::Recursion::by_recursion))]
 fn are_entries(texts: &Texts, table: &[TableItem]) -> bool
-    ensures { IsTrue result ↔ All (FitsEntry texts.now) table.now }
+    ensures { IsTrue result ↔ AllByRecursion (FitsEntry texts.now) table.now }
 {
     for item in table {
-        if !is_entry(texts, item) {
+        if !is_entry(texts, *item) {
             return false;
         }
     }
     true
 }
 
-fn is_short(code: &[u8]) -> bool
-    ensures { IsTrue result ↔ ((0 < length code.now) × (length code.now < 65536) × AreBytes code.now) }
+/// What the bytes of a code are is known of their slice.
+fn fits_code(max_stack: u16, max_locals: u16, code: &[u8]) -> bool
+    ensures { IsTrue result ↔ (FitsSizes max_stack max_locals (length code.now) × AreBytes code.now) }
 {
     !code.is_empty() && code.len() < 65536
 }
@@ -109,11 +110,9 @@ fn is_formed_code(texts: &Texts, names: AttributeNames, code: &CodeItem) -> bool
     requires { names.code ≡ has_text_that is_code texts.now }
     ensures { IsTrue result ↔ FormedCode texts.now code.now }
 {
-    let _max_stack = code.max_stack;
-    let _max_locals = code.max_locals;
     let table = code.table.as_slice();
     names.code
-        && is_short(code.code.as_slice())
+        && fits_code(code.max_stack, code.max_locals, code.code.as_slice())
         && table.len() < COUNT_LIMIT
         && are_entries(texts, table)
 }
@@ -137,14 +136,13 @@ fn is_formed_method(texts: &Texts, names: AttributeNames, method: &MethodItem) -
     requires { names.code ≡ has_text_that is_code texts.now }
     ensures { IsTrue result ↔ FormedMethod texts.now method.now }
 {
-    let head = head_passes(
-        texts,
-        MemberKind::Method,
-        method.flags,
-        method.name,
-        method.desc,
-    );
-    head && is_formed_code_of(texts, names, method.flags, &method.code)
+    let head = MemberHead {
+        flags: method.flags,
+        name: method.name,
+        desc: method.desc,
+    };
+    is_head(texts, MemberKind::Method, head)
+        && is_formed_code_of(texts, names, method.flags, &method.code)
 }
 
 /// Whether each method can be spelled, but for those alike.

@@ -3,10 +3,11 @@
 ghost use Rattle.std.specs.Prelude.{◌≡◌, ◌↔◌, ◌<◌, ◌^◌, false, IsTrue};
 ghost use Rattle.jvm_base.specs.Units.{AreUnits};
 ghost use Rattle.constant_pool.specs.Items.{is_wide};
-ghost use Rattle.class_format.specs.Meaning.{FitsItem, AreItems, IsPool};
-ghost use Rattle.class_format.specs.Formed.{FormedPool, Follows};
+ghost use Rattle.class_format.specs.Meaning.{FitsItem, AreItems, IsPool, FormedPool};
+ghost use Rattle.class_format.specs.Formed.{Follows};
 
 use crate::class::COUNT_LIMIT;
+use constant_pool::is_wide;
 use jvm_base::{PoolItem, Units};
 
 /// A text takes two bytes for its length. What its units are is known of their slice.
@@ -57,12 +58,6 @@ fn is_gap(item: &PoolItem) -> bool
     ensures { IsTrue result ↔ (item.now ≡ PoolItem.Gap) }
 {
     matches!(item, PoolItem::Gap)
-}
-
-fn is_wide(item: &PoolItem) -> bool
-    ensures { result ≡ is_wide item.now }
-{
-    matches!(item, PoolItem::Long(_) | PoolItem::Double(_))
 }
 
 /// Whether the item takes a second index; `None` where it can't stand behind the one before.

@@ -6,6 +6,7 @@ mod flags;
 mod formed;
 mod formed_member;
 mod formed_pool;
+mod known_texts;
 mod member_kind;
 mod members;
 mod version;
@@ -13,5 +14,10 @@ mod version;
 pub use class::{ClassFile, FieldItem, MethodItem};
 pub use flags::{STATIC, class_flags_clash, has_flag};
 pub use formed::well_formed;
-pub use member_kind::{MemberKind, code_count, flags_clash, is_desc_of, is_without_receiver};
+pub use known_texts::{
+    CODE, CONSTANT_VALUE, is_clinit, is_code, is_constant_at, is_constant_value, is_named,
+};
+pub use member_kind::{
+    MemberHead, MemberKind, code_count, flags_clash, is_desc_of, is_without_receiver,
+};
 pub use version::{MAGIC, is_other_version};

@@ -4,20 +4,29 @@ ghost use Rattle.std.specs.Prelude.{◌≡◌};
 ghost use Rattle.class_format.specs.Members.{is_without_receiver, is_desc_of, flags_clash, code_count};
 
 use crate::flags::{ABSTRACT, NATIVE, STATIC, field_flags_clash, has_flag, method_flags_clash};
+use crate::known_texts::is_clinit;
 use constant_pool::Texts;
 
 /// Fields and methods have the same form (JVMS2 4.5, 4.6).
-#[derive(Clone, Copy, Debug, PartialEq, Eq)]
+#[derive(Clone, Copy)]
 pub enum MemberKind {
     Field,
     Method,
+}
+
+/// What a field or method begins with: its flags, and the pool indices of its name and descriptor.
+#[derive(Clone, Copy)]
+pub struct MemberHead {
+    pub flags: u16,
+    pub name: u16,
+    pub desc: u16,
 }
 
 /// Whether no receiver comes with a call, by the flags of a method or by its name.
 pub fn is_without_receiver(texts: &Texts, flags: u16, name: u16) -> bool
     ensures { result ≡ is_without_receiver texts.now flags name }
 {
-    has_flag(flags, STATIC) || texts.is_clinit(name)
+    has_flag(flags, STATIC) || is_clinit(texts.items(), name)
 }
 
 /// Whether the index is of a descriptor of that kind (JVMS2 4.3.2, 4.3.3).

@@ -11,7 +11,7 @@ use Rattle.jvm_base.specs.declared.pool.PoolItem.TheVariants.{Gap, Utf8, Integer
 use Rattle.class_format.specs.declared.class.ClassFile.{ClassFile}
 use Rattle.class_format.specs.declared.class.FieldItem.{FieldItem}
 use Rattle.class_format.specs.declared.class.MethodItem.{MethodItem}
-use Rattle.constant_pool.specs.KnownTexts.{is_code, is_constant_value}
+use Rattle.class_format.specs.KnownTexts.{is_code, is_constant_value}
 use Rattle.constant_pool.specs.Items.{is_wide}
 use Rattle.class_format.specs.Spelling.{number2, listed, attribute_bytes, member_bytes, code_bytes}
 use Rattle.class_format.specs.Meaning.{FitsItem, AreItems, IsPool, IsMethod, HasCode, Spelled, lowest_that, constant_attributes, code_attributes, plain_field, plain_method, plain, spelling, IsClass}
@@ -99,7 +99,7 @@ pool-written (item ∷ items) h = (gap-written item h.0, items-written false ite
 
 code-fits : (pool : List PoolItem) (flags : ℕ) (code : Option CodeItem) (contents : List (List ℕ)) → HasCode pool flags code contents → FitsCode code
 code-fits pool flags None contents h = tt
-code-fits pool flags (Some c) contents h = (h.3.short, h.3.count)
+code-fits pool flags (Some c) contents h = (h.3.code.sizes.short, h.3.code.count)
 
 pub codes-fit : (pool : List PoolItem) (earlier methods : List MethodItem) → Spelled (IsMethod pool) earlier (map (plain_method pool) methods) methods → AllByRecursion (λ m. FitsCode m.code) methods
 codes-fit pool earlier [] h = tt

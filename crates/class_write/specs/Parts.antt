@@ -5,7 +5,7 @@ use Rattle.jvm_base.specs.declared.code_item.CodeItem.{CodeItem}
 use Rattle.class_format.specs.declared.class.ClassFile.{ClassFile}
 use Rattle.class_format.specs.declared.class.FieldItem.{FieldItem}
 use Rattle.class_format.specs.declared.class.MethodItem.{MethodItem}
-use Rattle.class_format.specs.Spelling.{number2, number4, listed, item_bytes, attribute_bytes, code_bytes}
+use Rattle.class_format.specs.Spelling.{magic_number, number2, number4, listed, item_bytes, attribute_bytes, code_bytes}
 
 -- the attributes of a field, where ConstantValue stands at this index
 abbrev pub constant_bytes : (name : ℕ) → Option ℕ → List ℕ
@@ -28,6 +28,6 @@ method_bytes name m = number2 m.flags ++ number2 m.name ++ number2 m.desc ++ met
 -- a class file with them
 abbrev pub class_bytes : (constant_name code_name : ℕ) → ClassFile → List ℕ
 class_bytes constant_name code_name c =
-    number4 3405691582 ++ number2 c.minor ++ number2 c.major ++ listed item_bytes c.pool
+    number4 magic_number ++ number2 c.minor ++ number2 c.major ++ listed item_bytes c.pool
     ++ number2 c.flags ++ number2 c.this_class ++ number2 c.super_class ++ listed number2 c.interfaces
     ++ listed (field_bytes constant_name) c.fields ++ listed (method_bytes code_name) c.methods ++ number2 0

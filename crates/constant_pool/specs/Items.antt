@@ -28,6 +28,10 @@ is_item_that test item = option_map_or test (text_of item) false
 abbrev pub is_text_at : List PoolItem → ℕ → Bool
 is_text_at pool i = is_some (text_at pool i)
 
+-- the second text is the first
+abbrev pub is_the_text : List ℕ → List ℕ → Bool
+is_the_text us vs = pointwise nat_eq vs us
+
 -- both are the same text, or neither is one
 abbrev pub is_same_text : Option (List ℕ) → Option (List ℕ) → Bool
 is_same_text (Some us) (Some vs) = pointwise nat_eq us vs

@@ -3,21 +3,22 @@
 ghost use Rattle.std.specs.Prelude.{◌≡◌, ◌<◌, length, IfSome};
 ghost use Rattle.constant_pool.specs.Links.{is_linked, bad_link};
 
+use crate::lookup::{is_class_at, is_text_at};
 use crate::texts::Texts;
 use jvm_base::PoolItem;
 
 fn is_linked(texts: &Texts, item: &PoolItem) -> bool
     ensures { result ≡ is_linked texts.now item.now }
 {
+    let pool = texts.items();
     match item {
         PoolItem::Class(name) => texts.is_class_text(*name),
-        PoolItem::Text(text) => texts.is_text(*text),
-        PoolItem::Field { class, pair } => texts.is_class(*class) && texts.is_field_pair(*pair),
-        PoolItem::Method { class, pair } => texts.is_class(*class) && texts.is_method_pair(*pair),
-        PoolItem::InterfaceMethod { class, pair } => {
-            texts.is_class(*class) && texts.is_method_pair(*pair)
+        PoolItem::Text(text) => is_text_at(pool, *text),
+        PoolItem::Field { class, pair } => is_class_at(pool, *class) && texts.is_field_pair(*pair),
+        PoolItem::Method { class, pair } | PoolItem::InterfaceMethod { class, pair } => {
+            is_class_at(pool, *class) && texts.is_method_pair(*pair)
         }
-        PoolItem::NameAndKind { name, desc } => texts.is_text(*name) && texts.is_text(*desc),
+        PoolItem::NameAndKind { name, desc } => is_text_at(pool, *name) && is_text_at(pool, *desc),
         _ => true,
     }
 }

@@ -5,17 +5,15 @@ ghost use Rattle.std.specs.Option.{option_map_or};
 ghost use Rattle.jvm_base.specs.Descriptors.{is_method_of};
 ghost use Rattle.constant_pool.specs.Items.{text_of, text_at, is_text_at, is_text_that, is_class_at, desc_index, is_pair_that};
 ghost use Rattle.constant_pool.specs.Links.{is_field_text, is_class_text};
-ghost use Rattle.constant_pool.specs.KnownTexts.{is_named, is_clinit, is_code, is_constant_value, is_string_desc, is_int_desc, is_constant, is_constant_at};
 ghost use Rattle.constant_pool.specs.Ranks.{rank_of, rank_at};
 ghost use Rattle.constant_pool.specs.Texts.{kind_of};
 
-use crate::known_texts::{is_clinit, is_code, is_constant_value};
-use crate::lookup;
+use crate::lookup::pair_desc;
 use jvm_base::PoolItem;
 use std::marker::Model;
 
 /// Of which descriptors a text is one: of a field, of a method, of a method that takes a receiver.
-#[derive(Clone, Copy, Debug, PartialEq, Eq)]
+#[derive(Clone, Copy)]
 pub struct TextKind {
     pub field: bool,
     pub method: bool,
@@ -79,13 +77,6 @@ impl<'a> Texts<'a> {
         self.pool
     }
 
-    /// Whether a text stands at the index.
-    pub fn is_text(&self, index: u16) -> bool
-        ensures { result ≡ is_text_at self.now index }
-    {
-        lookup::is_text_at(self.items(), index)
-    }
-
     fn kind(&self, index: u16) -> TextKind
         ensures { result ≡ option_map_or kind_of (slice_get self.now index) (kind_of PoolItem.Gap) }
     {
@@ -116,13 +107,6 @@ impl<'a> Texts<'a> {
         self.kind(index).instance
     }
 
-    /// Whether a class stands at the index.
-    pub fn is_class(&self, index: u16) -> bool
-        ensures { result ≡ is_class_at self.now index }
-    {
-        lookup::is_class_at(self.items(), index)
-    }
-
     /// Whether the text at the index names a class or an interface, or is the descriptor of an array.
     pub fn is_class_text(&self, index: u16) -> bool
         ensures { result ≡ is_text_that is_class_text self.now index }
@@ -140,7 +124,7 @@ impl<'a> Texts<'a> {
     pub fn is_field_pair(&self, index: u16) -> bool
         ensures { result ≡ is_pair_that is_field_text self.now index }
     {
-        match lookup::pair_desc(self.items(), index) {
+        match pair_desc(self.items(), index) {
             Some(desc) => self.is_field(desc),
             None => false,
         }
@@ -150,57 +134,10 @@ impl<'a> Texts<'a> {
     pub fn is_method_pair(&self, index: u16) -> bool
         ensures { result ≡ is_pair_that (λ us. is_method_of us 255) self.now index }
     {
-        match lookup::pair_desc(self.items(), index) {
+        match pair_desc(self.items(), index) {
             Some(desc) => self.is_method(desc),
             None => false,
         }
-    }
-
-    /// Whether the index is of a text that isn't empty.
-    pub fn is_named(&self, index: u16) -> bool
-        ensures { result ≡ is_text_that is_named self.now index }
-    {
-        match lookup::units_at(self.items(), index) {
-            Some(text) => !text.is_empty(),
-            None => false,
-        }
-    }
-
-    /// Whether the text at the index names a class initialiser (JVMS2 3.9).
-    pub fn is_clinit(&self, index: u16) -> bool
-        ensures { result ≡ is_text_that is_clinit self.now index }
-    {
-        match lookup::units_at(self.items(), index) {
-            Some(text) => is_clinit(text),
-            None => false,
-        }
-    }
-
-    /// Whether the text at the index names code (JVMS2 4.7.3).
-    pub fn is_code(&self, index: u16) -> bool
-        ensures { result ≡ is_text_that is_code self.now index }
-    {
-        match lookup::units_at(self.items(), index) {
-            Some(text) => is_code(text),
-            None => false,
-        }
-    }
-
-    /// Whether the text at the index names a constant value (JVMS2 4.7.2).
-    pub fn is_constant_value(&self, index: u16) -> bool
-        ensures { result ≡ is_text_that is_constant_value self.now index }
-    {
-        match lookup::units_at(self.items(), index) {
-            Some(text) => is_constant_value(text),
-            None => false,
-        }
-    }
-
-    /// Whether a field of that descriptor may have the item as its constant (JVMS2 4.7.2).
-    pub fn is_constant(&self, desc: u16, value: u16) -> bool
-        ensures { result ≡ is_constant_at self.now desc value }
-    {
-        lookup::is_constant_at(self.items(), desc, value)
     }
 
     /// The rank of the text at the index, which only indices of the same text share: how many items

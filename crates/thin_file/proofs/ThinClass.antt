@@ -203,13 +203,12 @@ is_code : (s m : ℕ) (code : List ℕ) → s < 2 ^ 16 → m < 2 ^ 16 → IsBody
 is_code s m code fs fm b = record {
   others = [];
   spelled = refl;
-  max_stack = fs;
-  max_locals = fm;
-  some = b.some;
-  short = b.short;
-  bytes = b.bytes;
-  entries = tt;
-  count = omega arith;
+  code = record {
+    sizes = record { fits_stack = fs; fits_locals = fm; some = b.some; short = b.short };
+    bytes = b.bytes;
+    entries = tt;
+    count = omega arith;
+  };
   attributes = (tt, omega arith);
 }
 
@@ -218,12 +217,7 @@ is_main : (s m : ℕ) (code : List ℕ) → s < 2 ^ 16 → m < 2 ^ 16 → IsBody
 unfolding elem_at desc_at desc_of args_at method_of
 is_main s m code fs fm b = record {
   member = record {
-    flags = omega arith;
-    name = omega arith;
-    desc = omega arith;
-    named = refl;
-    typed = refl;
-    plain = refl;
+    head = record { fits = record { flags = omega arith; name = omega arith; desc = omega arith }; named = refl; typed = refl; plain = refl };
     attributes = ((record { name = omega arith; text = refl; contents = omega (arith, body_length s m code, b.short) }, tt), omega arith);
   };
   new = refl;
@@ -246,19 +240,16 @@ means s m code fs fm b = record {
   fields = tt;
   methods = (is_main s m code fs fm b, tt);
   front = record {
-    fits_minor = omega arith;
-    fits_major = omega arith;
-    version = refl;
-    items = items;
-    count = omega arith;
+    version = record { fits_minor = omega arith; fits_major = omega arith; version = refl };
+    pool = record { items = items; count = omega arith };
     links = links;
-    fits_flags = omega arith;
-    plain = refl;
-    this_link = (omega arith, refl);
-    fits_super = omega arith;
-    super_link = refl;
-    interface_links = tt;
-    interface_count = omega arith;
+    names = record {
+      fits_flags = record { fits = omega arith; plain = refl };
+      this_link = (omega arith, refl);
+      super_link = record { fits = omega arith; link = refl };
+      interface_links = tt;
+      interface_count = omega arith;
+    };
   };
   field_count = omega arith;
   method_count = omega arith;

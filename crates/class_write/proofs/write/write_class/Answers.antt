@@ -1,8 +1,8 @@
 use Rattle.std.proofs.Common.{◌≡◌, List, [], ℕ, ap, subst, ◌∙◌, IfOk}
 use Rattle.class_format.specs.Meaning.{lowest_that, plain_field, plain_method, spelling}
-use Rattle.constant_pool.specs.KnownTexts.{is_code, is_constant_value}
+use Rattle.class_format.specs.KnownTexts.{is_code, is_constant_value}
 use Rattle.class_write.specs.Written.{FitsWritten, FitsCode}
-use Rattle.class_format.proofs.FormedClass.{all_of}
+use Rattle.class_format.proofs.Recursion.{all_of}
 use Rattle.class_write.proofs.Plain.{written-same, read_back, pool-written, codes-fit, count-fits}
 use Rattle.class_write.proofs.write.write_class.Goals as goal
 
@@ -10,9 +10,9 @@ pub write-requires : goal.write-requires
 write-requires c =
     let class = c.args.class.now in
     record {
-      pool = c.requires.front.count;
-      items = all_of FitsWritten class.pool (pool-written class.pool c.requires.front.items);
-      interfaces = c.requires.front.interface_count;
+      pool = c.requires.front.pool.count;
+      items = all_of FitsWritten class.pool (pool-written class.pool c.requires.front.pool.items);
+      interfaces = c.requires.front.names.interface_count;
       fields = count-fits (plain_field class.pool) class.fields c.requires.field_count;
       methods = count-fits (plain_method class.pool) class.methods c.requires.method_count;
       codes = all_of (λ m. FitsCode m.code) class.methods (codes-fit class.pool [] class.methods c.requires.methods);

@@ -1,14 +1,9 @@
 -- Texts with a meaning of their own, and which constants a field may have (JVMS2 3.9, 4.3, 4.7).
 use Rattle.std.specs.Prelude.{ℕ, List, [], ◌∷◌, length, nat_eq, nat_lt, Bool, false, ◌||◌, slice_get}
 use Rattle.std.specs.Option.{option_map_or}
-use Rattle.std.specs.Cmp.Lexicographic.{pointwise}
 use Rattle.jvm_base.specs.declared.pool.PoolItem.{PoolItem}
 use Rattle.jvm_base.specs.declared.pool.PoolItem.TheVariants.{Integer, Float, Long, Double, Text}
-use Rattle.constant_pool.specs.Items.{is_text_that}
-
--- the second text is the first
-abbrev pub is_the_text : List ℕ → List ℕ → Bool
-is_the_text us vs = pointwise nat_eq vs us
+use Rattle.constant_pool.specs.Items.{is_text_that, is_the_text}
 
 -- a name isn't empty
 abbrev pub is_named : List ℕ → Bool
