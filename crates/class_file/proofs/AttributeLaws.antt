@@ -8,8 +8,8 @@ use Rattle.class_file.specs.declared.attribute.AttributeHead.{AttributeHead}
 use Rattle.class_file.specs.declared.error.ClassErr.TheVariants.{ItemLink}
 use Rattle.constant_pool.specs.Items.{is_text_at}
 use Rattle.class_format.specs.Meaning.{AreBytes, FitsAttribute, AreAttributes}
-use Rattle.class_file.specs.MemberReading.{attribute_at, skipped_at, other_at}
-use Rattle.class_file.specs.Reading.{Place, offset_of, ◌>>=◌, need, number_at, bytes_at, counted_at}
+use Rattle.class_file.specs.Reading.Members.{attribute_at, skipped_at, other_at}
+use Rattle.class_file.specs.Reading.Words.{Place, offset_of, ◌>>=◌, need, number_at, bytes_at, counted_at}
 use Rattle.class_format.specs.Spelling.{Attribute, number2, number4, listed, attribute_bytes}
 use Rattle.class_file.proofs.PartLaws.{IsPart, Lead, listed_take, listed_again}
 use Rattle.class_file.proofs.ReadLaws.{at, Takes, Takes-then, bytes_take, bytes_again, read2, read4}

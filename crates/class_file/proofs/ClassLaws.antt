@@ -5,6 +5,7 @@ use Rattle.std.specs.List.{flat_map, AllByRecursion}
 use Rattle.std.specs.Prelude.{IfOk, nat_eq}
 use Rattle.std.proofs.lemmas.Bool.{eqb-true}
 use Rattle.std.proofs.lemmas.List.{append-nil, nil_from_length}
+use Rattle.jvm_base.specs.Told.{Gives, itself}
 use Rattle.jvm_base.specs.declared.pool.PoolItem.{PoolItem}
 use Rattle.jvm_base.proofs.Refusing.{bind_ok, need_ok, bind_then, need_then, ok_is}
 use Rattle.jvm_base.proofs.Options.{not_true, is_not}
@@ -14,15 +15,16 @@ use Rattle.class_file.specs.declared.class_reader.Names.{Names}
 use Rattle.class_file.specs.declared.error.ClassErr.{ClassErr}
 use Rattle.class_file.specs.declared.error.ClassErr.TheVariants.{Magic, Version, ItemLink, Flags, Extra}
 use Rattle.class_format.specs.Versions.{is_other_version}
-use Rattle.class_file.specs.ClassReading.{version_numbers_at, version_at, linked, class_index_at, super_index_at, interface_at, names_at, members_at, class_body_at, class_at}
+use Rattle.class_file.specs.Reading.Classes.{version_numbers_at, version_at, linked, class_index_at, super_index_at, interface_at, names_at, members_at, class_body_at, class_at}
 use Rattle.class_format.specs.Flags.{class_flags_clash}
 use Rattle.constant_pool.specs.Items.{is_class_at}
 use Rattle.constant_pool.specs.Links.{bad_link}
 use Rattle.class_format.specs.Meaning.{AreBytes, FitsLink, FitsSuper, IsKnown, AreNames, IsField, IsMethod, Means, IsClass, Spells, IsFront}
-use Rattle.class_file.specs.MemberReading.{other_at, field_at, method_at}
-use Rattle.class_file.specs.PoolReading.{pool_at}
-use Rattle.class_file.specs.Reading.{Place, Gives, offset_of, ◌>>=◌, number_at, counted_at, listed_at}
+use Rattle.class_file.specs.Reading.Members.{other_at, field_at, method_at}
+use Rattle.class_file.specs.Reading.Pools.{pool_at}
+use Rattle.class_file.specs.Reading.Words.{Place, offset_of, ◌>>=◌, number_at, counted_at, listed_at}
 use Rattle.class_format.specs.Spelling.{Attribute, Member, Source, magic_number, number2, number4, listed, item_bytes, pool_bytes, attribute_bytes, member_bytes, source_bytes}
+use Rattle.class_file.specs.Reasons.{told}
 use Rattle.class_file.specs.Refused.{version_bytes, front_bytes}
 use Rattle.class_file.proofs.AttributeLaws.{others_take, others_again}
 use Rattle.class_file.proofs.Groups.{IsGroup, number2_group, two, group_of, needs, group_read}
@@ -319,6 +321,6 @@ class_again c bytes h =
     let body : class_body_at (at t (source_bytes h.source)) ≡ Ok (c, at t []) = ap (λ b. class_body_at (at t b)) (sym (append-nil (source_bytes h.source))) ∙ body_again h.source c t [] h.means in
     ap class_at h.spelled ∙ bind_then (class_body_at (at t (source_bytes h.source))) (c, at t []) _ _ body refl
 
-pub is_found : (bytes : List ℕ) (r : Result ClassFile ClassErr) → AreBytes bytes → Gives (λ c. c) r (class_at bytes) → IfOk r (λ c. IsClass c × Spells c bytes)
+pub is_found : (bytes : List ℕ) (r : Result ClassFile ClassErr) → AreBytes bytes → Gives told itself r (class_at bytes) → IfOk r (λ c. IsClass c × Spells c bytes)
 is_found bytes (Ok c) fits given = let s = class_takes bytes c fits given in (is_class s.source c s.means, s)
 is_found bytes (Err e) fits given = tt

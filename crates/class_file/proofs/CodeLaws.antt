@@ -11,9 +11,10 @@ use Rattle.jvm_base.proofs.Refusing.{bind_ok, need_ok, bind_then, need_then, ok_
 use Rattle.class_file.specs.declared.attribute.AttributeHead.{AttributeHead}
 use Rattle.class_file.specs.declared.code.CodeSizes.{CodeSizes}
 use Rattle.class_file.specs.declared.error.ClassErr.TheVariants.{AttrLength, CodeLength}
+use Rattle.class_format.specs.Members.{is_code_len}
 use Rattle.class_format.specs.Meaning.{AreBytes, FitsNumbers, FitsEntry, IsCode}
-use Rattle.class_file.specs.MemberReading.{other_at, entry_numbers_at, table_item_at, sizes_at, code_contents_at, code_at}
-use Rattle.class_file.specs.Reading.{Place, bytes_at, counted_at, listed_at}
+use Rattle.class_file.specs.Reading.Members.{other_at, entry_numbers_at, table_item_at, sizes_at, code_contents_at, code_at}
+use Rattle.class_file.specs.Reading.Words.{Place, bytes_at, counted_at, listed_at}
 use Rattle.class_format.specs.Spelling.{number2, number4, listed, attribute_bytes, table_bytes, code_bytes}
 use Rattle.class_file.specs.Refused.{sizes_bytes, FitsCodeSizes, entry_tests, InEntry}
 use Rattle.class_file.proofs.AttributeLaws.{others_take, others_again}
@@ -57,10 +58,10 @@ pub record IsCodeTaken (pool : List PoolItem) (p : Place) (z : CodeItem × Place
   pub took : Takes p contents z.1
   pub is : IsCode pool z.0 contents
 
-pub in_range : (n : ℕ) → (nat_lt 0 n && nat_lt n 65536) ≡ true → (0 < n) × (n < 65536)
+pub in_range : (n : ℕ) → is_code_len n ≡ true → (0 < n) × (n < 65536)
 in_range n h = (grind (arith, nat_tests), grind (arith, nat_tests))
 
-pub is_in_range : (n : ℕ) → 0 < n → n < 65536 → (nat_lt 0 n && nat_lt n 65536) ≡ true
+pub is_in_range : (n : ℕ) → 0 < n → n < 65536 → is_code_len n ≡ true
 is_in_range n some short = grind (arith, nat_tests)
 
 -- the numbers that a code has
@@ -71,7 +72,7 @@ pub contents_take : (pool : List PoolItem) (m : ℕ) (p : Place) (z : CodeItem �
 unfolding code_contents_at
 contents_take pool m p z fits e =
     let sizes = bind_ok (sizes_at p) _ z e in
-    let range = need_ok (nat_lt 0 sizes.0.0.len && nat_lt sizes.0.0.len 65536) (CodeLength m) _ z sizes.2 in
+    let range = need_ok (is_code_len sizes.0.0.len) (CodeLength m) _ z sizes.2 in
     let code = bind_ok (bytes_at sizes.0.0.len sizes.0.1) _ z range.1 in
     let table = bind_ok (listed_at (table_item_at pool) code.0.1) _ z code.2 in
     let others = bind_ok (counted_at (other_at pool) tt table.0.1) _ z table.2 in
@@ -111,7 +112,7 @@ contents_again pool m c contents t rest h =
     ap (λ (bytes : List ℕ). code_contents_at pool m (at t (bytes ++ rest))) h.spelled
     ∙ ap (λ (bytes : List ℕ). code_contents_at pool m (at t bytes)) (regroup4 (sizes_bytes sizes) c.code (listed table_bytes c.table) (listed attribute_bytes h.others) rest)
     ∙ bind_then (sizes_at (at t (sizes_bytes sizes ++ code_rest))) (sizes, at t code_rest) _ _ (sizes_group.is.again sizes t code_rest fits)
-    (need_then (nat_lt 0 (length c.code) && nat_lt (length c.code) 65536) _ _ _ (is_in_range (length c.code) h.code.sizes.some h.code.sizes.short)
+    (need_then (is_code_len (length c.code)) _ _ _ (is_in_range (length c.code) h.code.sizes.some h.code.sizes.short)
     (bind_then (bytes_at (length c.code) (at t code_rest)) (c.code, at t table_rest) _ _ (bytes_again c.code table_rest t)
     (bind_then (listed_at (table_item_at pool) (at t table_rest)) (c.table, at t others_rest) _ _ ((table_read pool).again c.table t others_rest (h.code.entries, h.code.count))
     (bind_then (counted_at (other_at pool) tt (at t others_rest)) (tt, at t rest) _ _ (others_again pool h.others t rest h.attributes) refl))))

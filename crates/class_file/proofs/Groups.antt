@@ -7,7 +7,7 @@ use Rattle.jvm_base.proofs.Refusing.{bind_ok, bind_then, bind_err, fails_then, o
 use Rattle.class_file.specs.declared.error.ClassErr.{ClassErr}
 use Rattle.class_file.specs.declared.error.ClassErr.TheVariants as errors
 use Rattle.class_format.specs.Meaning.{AreBytes}
-use Rattle.class_file.specs.Reading.{Place, after, ◌>>=◌, need, number_at}
+use Rattle.class_file.specs.Reading.Words.{Place, after, ◌>>=◌, need, number_at}
 use Rattle.class_file.specs.Stops.{IsShort, unmet, Behind, InField, is_short, is_bad}
 use Rattle.class_file.proofs.ReadLaws.{at, Takes, takes_none, Takes-then, IsRead, IsWide, wide16, wide32, number_read}
 

@@ -7,7 +7,7 @@ use Rattle.std.proofs.lemmas.List.Concat.{flat_map-cons}
 use Rattle.jvm_base.proofs.Refusing.{bind_ok, ok_is}
 use Rattle.class_file.specs.declared.error.ClassErr.{ClassErr}
 use Rattle.class_format.specs.Meaning.{AreBytes, Spelled}
-use Rattle.class_file.specs.Reading.{Place, number_at, each_at, counted_at, adding, listed_at}
+use Rattle.class_file.specs.Reading.Words.{Place, number_at, each_at, counted_at, adding, listed_at}
 use Rattle.class_format.specs.Spelling.{number2, listed}
 use Rattle.class_file.proofs.ReadLaws.{at, Takes, takes_none, Takes-then, IsRead, read2}
 

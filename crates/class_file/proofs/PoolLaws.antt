@@ -22,8 +22,8 @@ use Rattle.constant_pool.specs.Items.{is_class_at}
 use Rattle.constant_pool.specs.Links.{bad_link}
 use Rattle.class_format.specs.Meaning.{AreBytes, FitsItem, AreItems, IsPool, Spelled}
 use Rattle.constant_pool.specs.Items.{is_wide}
-use Rattle.class_file.specs.PoolReading.{is_after_wide, text_item_at, number_item_at, wide_item_at, two_indices_at, pair_item_at, content_at, item_at, next_item_at, pool_at}
-use Rattle.class_file.specs.Reading.{Place, ◌>>=◌, want, number_at, bytes_at, each_at, adding}
+use Rattle.class_file.specs.Reading.Pools.{is_after_wide, text_item_at, number_item_at, wide_item_at, two_indices_at, pair_item_at, content_at, item_at, next_item_at, pool_at}
+use Rattle.class_file.specs.Reading.Words.{Place, ◌>>=◌, want, number_at, bytes_at, each_at, adding}
 use Rattle.class_format.specs.Spelling.{number2, number4, number8, item_bytes}
 use Rattle.class_file.proofs.PartLaws.{Lead, spelled_long, IsItem, Adds, adds, all_take, all_again, spelled_of, lead_of}
 use Rattle.class_file.proofs.ReadLaws.{at, Takes, takes_none, Takes-then, IsRead, bytes_take, bytes_again, read1, read2, read4, read8}

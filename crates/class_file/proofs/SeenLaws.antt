@@ -7,15 +7,15 @@ use Rattle.std.proofs.lemmas.List.Folds.{list_any-append}
 use Rattle.jvm_base.specs.declared.pool.PoolItem.{PoolItem}
 use Rattle.jvm_base.specs.declared.pool.PoolItem.TheVariants.{Gap}
 use Rattle.constant_pool.specs.Items.{text_at, is_same_text}
-use Rattle.class_format.specs.Keys.{key_cmp, key_ranks}
+use Rattle.class_format.specs.Judging.Keys.{key_cmp, key_ranks}
 use Rattle.class_format.specs.Members.{is_among}
 use Rattle.class_format.specs.declared.member_kind.MemberKind.{MemberKind}
 use Rattle.class_format.proofs.KeyLaws.{same_key}
-use Rattle.class_file.specs.Seen.{HasSeen}
+use Rattle.class_file.specs.Reading.Seen.{HasSeen}
 use Rattle.class_file.specs.declared.error.ClassErr.TheVariants.{Twice}
 use Rattle.class_format.specs.declared.member_kind.MemberHead.{MemberHead}
-use Rattle.class_file.specs.MemberReading.{head_at, new_head_at}
-use Rattle.class_file.specs.Reading.{Place, offset_of}
+use Rattle.class_file.specs.Reading.Members.{head_at, new_head_at}
+use Rattle.class_file.specs.Reading.Words.{Place, offset_of}
 
 -- ---- one more
 

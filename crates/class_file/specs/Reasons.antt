@@ -1,7 +1,12 @@
--- The words in which a report gives a refusal.
-use Rattle.std.specs.Prelude.{ℕ, codes, decimal, List, ◌++◌}
+-- What an error tells, and the words in which a report gives it.
+use Rattle.std.specs.Prelude.{ℕ, codes, decimal, List, ◌++◌, Option, Some, None}
 use Rattle.class_file.specs.declared.error.ClassErr.{ClassErr}
 use Rattle.class_file.specs.declared.error.ClassErr.TheVariants.{Magic, Version, Cut, PoolTag, PoolText, PoolLink, ItemLink, Flags, AttrLength, CodeLength, CodeCount, Twice, Extra, NoMemory}
+
+-- want of memory tells nothing of the file
+abbrev pub told : ClassErr → Option ClassErr
+told NoMemory = None
+told e = Some e
 
 -- why a file is no class file
 abbrev pub reason : ClassErr → List ℕ

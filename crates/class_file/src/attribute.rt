@@ -1,8 +1,10 @@
 //! Attributes, of which all but two are skipped.
 
 ghost use Rattle.std.specs.Prelude.{◌≡◌};
-ghost use Rattle.class_file.specs.Reading.{Gives, counted_at};
-ghost use Rattle.class_file.specs.MemberReading.{attribute_at, skipped_at, other_at};
+ghost use Rattle.jvm_base.specs.Told.{Gives};
+ghost use Rattle.class_file.specs.Reasons.{told};
+ghost use Rattle.class_file.specs.Reading.Words.{counted_at};
+ghost use Rattle.class_file.specs.Reading.Members.{attribute_at, skipped_at, other_at};
 
 use crate::error::ClassErr;
 use crate::reader::Reader;
@@ -17,9 +19,9 @@ pub(crate) struct AttributeHead {
 }
 
 /// Reads an attribute up to its contents (JVMS2 4.7).
-#[tactic(auto, unfolding(crate::specs::MemberReading::attribute_at))]
+#[tactic(auto, unfolding(crate::specs::Reading::Members::attribute_at))]
 pub(crate) fn next_attribute(reader: &mut Reader, texts: &Texts) -> Result<AttributeHead, ClassErr>
-    ensures { Gives (λ a. (a, reader.new)) result (attribute_at texts.now reader.old) }
+    ensures { Gives told (λ a. (a, reader.new)) result (attribute_at texts.now reader.old) }
 {
     let name_at = reader.offset();
     let name = reader.u2()?;
@@ -31,9 +33,9 @@ pub(crate) fn next_attribute(reader: &mut Reader, texts: &Texts) -> Result<Attri
     Ok(AttributeHead { name, len, at })
 }
 
-#[tactic(auto, unfolding(crate::specs::MemberReading::other_at, crate::specs::MemberReading::skipped_at))]
+#[tactic(auto, unfolding(crate::specs::Reading::Members::other_at, crate::specs::Reading::Members::skipped_at))]
 fn other(reader: &mut Reader, texts: &Texts) -> Result<(), ClassErr>
-    ensures { Gives (λ s. (s, reader.new)) result (other_at texts.now tt reader.old) }
+    ensures { Gives told (λ s. (s, reader.new)) result (other_at texts.now tt reader.old) }
 {
     let attribute = next_attribute(reader, texts)?;
     reader.take(attribute.len)?;
@@ -42,7 +44,7 @@ fn other(reader: &mut Reader, texts: &Texts) -> Result<(), ClassErr>
 
 /// Skips so many attributes as the count says, and the count.
 pub(crate) fn other_attributes(reader: &mut Reader, texts: &Texts) -> Result<(), ClassErr>
-    ensures { Gives (λ s. (s, reader.new)) result (counted_at (other_at texts.now) tt reader.old) }
+    ensures { Gives told (λ s. (s, reader.new)) result (counted_at (other_at texts.now) tt reader.old) }
 {
     let count = reader.u2()?;
     for _ in 0..count {

@@ -1,12 +1,14 @@
 //! Class files, read from their bytes.
 
 ghost use Rattle.std.specs.Prelude.{◌≡◌, ◌<◌, ◌^◌, Ok, Err, Some, length, slice_get, IfOk, IfErr};
-ghost use Rattle.class_file.specs.Reading.{Gives, listed_at};
+ghost use Rattle.jvm_base.specs.Told.{Gives, itself};
+ghost use Rattle.class_file.specs.Reasons.{told};
+ghost use Rattle.class_file.specs.Reading.Words.{listed_at};
 ghost use Rattle.class_format.specs.Meaning.{IsClass, Spells};
 ghost use Rattle.class_format.specs.Versions.{is_other_version};
 ghost use Rattle.class_file.specs.declared.error.ClassErr.{ClassErr as Refusal};
 ghost use Rattle.class_file.specs.Refused.{IsRefused, IsDue};
-ghost use Rattle.class_file.specs.ClassReading.{version_numbers_at, version_at, class_index_at, super_index_at, interface_at, names_at, members_at, class_body_at, class_at};
+ghost use Rattle.class_file.specs.Reading.Classes.{version_numbers_at, version_at, class_index_at, super_index_at, interface_at, names_at, members_at, class_body_at, class_at};
 
 use crate::attribute::other_attributes;
 use crate::error::ClassErr;
@@ -36,18 +38,18 @@ struct Members {
     methods: List<MethodItem>,
 }
 
-#[tactic(auto, unfolding(crate::specs::ClassReading::version_numbers_at))]
+#[tactic(auto, unfolding(crate::specs::Reading::Classes::version_numbers_at))]
 fn version_numbers(reader: &mut Reader) -> Result<(u16, u16), ClassErr>
-    ensures { Gives (λ v. ((v.0, v.1), reader.new)) result (version_numbers_at reader.old) }
+    ensures { Gives told (λ v. ((v.0, v.1), reader.new)) result (version_numbers_at reader.old) }
 {
     let minor = reader.u2()?;
     let major = reader.u2()?;
     Ok((minor, major))
 }
 
-#[tactic(auto, unfolding(crate::specs::ClassReading::version_at))]
+#[tactic(auto, unfolding(crate::specs::Reading::Classes::version_at))]
 fn version(reader: &mut Reader) -> Result<(u16, u16), ClassErr>
-    ensures { Gives (λ v. ((v.0, v.1), reader.new)) result (version_at reader.old) }
+    ensures { Gives told (λ v. ((v.0, v.1), reader.new)) result (version_at reader.old) }
 {
     if reader.u4()? != MAGIC {
         return Err(ClassErr::Magic);
@@ -59,9 +61,9 @@ fn version(reader: &mut Reader) -> Result<(u16, u16), ClassErr>
     Ok((minor, major))
 }
 
-#[tactic(auto, unfolding(crate::specs::ClassReading::class_index_at))]
+#[tactic(auto, unfolding(crate::specs::Reading::Classes::class_index_at))]
 fn class_index(reader: &mut Reader, texts: &Texts) -> Result<u16, ClassErr>
-    ensures { Gives (λ n. (n, reader.new)) result (class_index_at texts.now reader.old) }
+    ensures { Gives told (λ n. (n, reader.new)) result (class_index_at texts.now reader.old) }
 {
     let at = reader.offset();
     let class = reader.u2()?;
@@ -71,9 +73,9 @@ fn class_index(reader: &mut Reader, texts: &Texts) -> Result<u16, ClassErr>
     Ok(class)
 }
 
-#[tactic(auto, unfolding(crate::specs::ClassReading::super_index_at))]
+#[tactic(auto, unfolding(crate::specs::Reading::Classes::super_index_at))]
 fn super_index(reader: &mut Reader, texts: &Texts) -> Result<u16, ClassErr>
-    ensures { Gives (λ n. (n, reader.new)) result (super_index_at texts.now reader.old) }
+    ensures { Gives told (λ n. (n, reader.new)) result (super_index_at texts.now reader.old) }
 {
     let at = reader.offset();
     let class = reader.u2()?;
@@ -84,7 +86,7 @@ fn super_index(reader: &mut Reader, texts: &Texts) -> Result<u16, ClassErr>
 }
 
 fn interfaces(alloc: Global, reader: &mut Reader, texts: &Texts) -> Result<List<u16>, ClassErr>
-    ensures { Gives (λ list. (list, reader.new)) result (listed_at (interface_at texts.now) reader.old) }
+    ensures { Gives told (λ list. (list, reader.new)) result (listed_at (interface_at texts.now) reader.old) }
 {
     let count = reader.u2()?;
     let mut interfaces = List::new(alloc);
@@ -95,9 +97,9 @@ fn interfaces(alloc: Global, reader: &mut Reader, texts: &Texts) -> Result<List<
     Ok(interfaces)
 }
 
-#[tactic(auto, unfolding(crate::specs::ClassReading::names_at))]
+#[tactic(auto, unfolding(crate::specs::Reading::Classes::names_at))]
 fn class_names(alloc: Global, reader: &mut Reader, texts: &Texts) -> Result<Names, ClassErr>
-    ensures { Gives (λ n. (n, reader.new)) result (names_at texts.now reader.old) }
+    ensures { Gives told (λ n. (n, reader.new)) result (names_at texts.now reader.old) }
 {
     let flags_at = reader.offset();
     let flags = reader.u2()?;
@@ -116,11 +118,11 @@ fn class_names(alloc: Global, reader: &mut Reader, texts: &Texts) -> Result<Name
 }
 
 /// Reads what follows the pool, if each item of it is linked.
-#[tactic(auto, unfolding(crate::specs::ClassReading::members_at))]
+#[tactic(auto, unfolding(crate::specs::Reading::Classes::members_at))]
 fn class_members(alloc: Global, reader: &mut Reader, pool: &Pool) -> Result<Members, ClassErr>
     requires long { length pool.now < 2 ^ 16 }
     requires gap { slice_get pool.now 0 ≡ Some PoolItem.Gap }
-    ensures { Gives (λ m. (m, reader.new)) result (members_at pool.now reader.old) }
+    ensures { Gives told (λ m. (m, reader.new)) result (members_at pool.now reader.old) }
 {
     let facts = TextFacts::of(alloc, pool.as_slice())?;
     let texts = facts.texts();
@@ -139,9 +141,9 @@ fn class_members(alloc: Global, reader: &mut Reader, pool: &Pool) -> Result<Memb
 }
 
 /// Reads a class file, whatever follows it.
-#[tactic(auto, unfolding(crate::specs::ClassReading::class_body_at))]
+#[tactic(auto, unfolding(crate::specs::Reading::Classes::class_body_at))]
 fn class_body(alloc: Global, reader: &mut Reader) -> Result<ClassFile, ClassErr>
-    ensures { Gives (λ c. (c, reader.new)) result (class_body_at reader.old) }
+    ensures { Gives told (λ c. (c, reader.new)) result (class_body_at reader.old) }
 {
     let (minor, major) = version(reader)?;
     let count = reader.u2()?;
@@ -165,9 +167,9 @@ fn class_body(alloc: Global, reader: &mut Reader) -> Result<ClassFile, ClassErr>
     })
 }
 
-#[tactic(auto, unfolding(crate::specs::ClassReading::class_at))]
+#[tactic(auto, unfolding(crate::specs::Reading::Classes::class_at))]
 fn whole_class(alloc: Global, bytes: &[u8]) -> Result<ClassFile, ClassErr>
-    ensures { Gives (λ c. c) result (class_at bytes.now) }
+    ensures { Gives told itself result (class_at bytes.now) }
 {
     let mut reader = Reader::new(bytes);
     let class = class_body(alloc, &mut reader)?;
@@ -184,15 +186,12 @@ pub fn read_class(alloc: Global, bytes: &[u8]) -> Result<ClassFile, ClassErr>
     // What is read is spelled so, and has a spelling without what is skipped.
     ensures found { IfOk result (λ c. IsClass c × Spells c bytes.now) }
     // What is spelled so is read, unless memory runs out.
-    ensures only { (c : ClassFile) → Spells c bytes.now → Gives (λ d. d) result (Ok c) }
+    ensures only { (c : ClassFile) → Spells c bytes.now → Gives told itself result (Ok c) }
     // What is refused is refused so, in the words of the spelling, unless memory runs out.
     ensures refused { IfErr result (IsDue bytes.now) }
-    ensures due { (e : Refusal) → IsRefused bytes.now e → Gives (λ c. c) result (Err e) }
+    ensures due { (e : Refusal) → IsRefused bytes.now e → Gives told itself result (Err e) }
     // The same by the order in which a file is read.
-    ensures exact { Gives (λ c. c) result (class_at bytes.now) }
+    ensures exact { Gives told itself result (class_at bytes.now) }
 {
     whole_class(alloc, bytes)
 }
-
-#[cfg(test)]
-mod tests;

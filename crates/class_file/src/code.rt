@@ -2,12 +2,15 @@
 
 ghost use Rattle.std.specs.Prelude.{◌≡◌, List as Items, IfOk};
 ghost use Rattle.jvm_base.specs.declared.code_item.TableItem.{TableItem as Entry};
-ghost use Rattle.class_file.specs.Reading.{Gives, listed_at};
-ghost use Rattle.class_file.specs.MemberReading.{entry_numbers_at, table_item_at, sizes_at, code_contents_at, code_at};
+ghost use Rattle.jvm_base.specs.Told.{Gives};
+ghost use Rattle.class_file.specs.Reasons.{told};
+ghost use Rattle.class_file.specs.Reading.Words.{listed_at};
+ghost use Rattle.class_file.specs.Reading.Members.{entry_numbers_at, table_item_at, sizes_at, code_contents_at, code_at};
 
 use crate::attribute::{AttributeHead, other_attributes};
 use crate::error::ClassErr;
 use crate::reader::Reader;
+use class_format::is_code_len;
 use constant_pool::{Texts, is_class_at};
 use jvm_base::{CodeItem, List, NoMemory, TableItem};
 use std::alloc::Global;
@@ -20,9 +23,9 @@ struct CodeSizes {
     len: u32,
 }
 
-#[tactic(auto, unfolding(crate::specs::MemberReading::entry_numbers_at))]
+#[tactic(auto, unfolding(crate::specs::Reading::Members::entry_numbers_at))]
 fn entry_numbers(reader: &mut Reader) -> Result<TableItem, ClassErr>
-    ensures { Gives (λ t. (t, reader.new)) result (entry_numbers_at reader.old) }
+    ensures { Gives told (λ t. (t, reader.new)) result (entry_numbers_at reader.old) }
 {
     let start = reader.u2()?;
     let end = reader.u2()?;
@@ -36,9 +39,9 @@ fn entry_numbers(reader: &mut Reader) -> Result<TableItem, ClassErr>
     })
 }
 
-#[tactic(auto, unfolding(crate::specs::MemberReading::table_item_at))]
+#[tactic(auto, unfolding(crate::specs::Reading::Members::table_item_at))]
 fn table_item(reader: &mut Reader, texts: &Texts) -> Result<TableItem, ClassErr>
-    ensures { (earlier : Items Entry) → Gives (λ t. (t, reader.new)) result (table_item_at texts.now earlier reader.old) }
+    ensures { (earlier : Items Entry) → Gives told (λ t. (t, reader.new)) result (table_item_at texts.now earlier reader.old) }
 {
     let class_at = reader.offset_after(6);
     let item = entry_numbers(reader)?;
@@ -49,7 +52,7 @@ fn table_item(reader: &mut Reader, texts: &Texts) -> Result<TableItem, ClassErr>
 }
 
 fn table(alloc: Global, reader: &mut Reader, texts: &Texts) -> Result<List<TableItem>, ClassErr>
-    ensures { Gives (λ table. (table, reader.new)) result (listed_at (table_item_at texts.now) reader.old) }
+    ensures { Gives told (λ table. (table, reader.new)) result (listed_at (table_item_at texts.now) reader.old) }
 {
     let count = reader.u2()?;
     let mut table = List::new(alloc);
@@ -68,9 +71,9 @@ fn copied(alloc: Global, bytes: &[u8]) -> Result<List<u8>, NoMemory>
     Ok(List::from_vec(items))
 }
 
-#[tactic(auto, unfolding(crate::specs::MemberReading::sizes_at))]
+#[tactic(auto, unfolding(crate::specs::Reading::Members::sizes_at))]
 fn sizes(reader: &mut Reader) -> Result<CodeSizes, ClassErr>
-    ensures { Gives (λ c. (c, reader.new)) result (sizes_at reader.old) }
+    ensures { Gives told (λ c. (c, reader.new)) result (sizes_at reader.old) }
 {
     let max_stack = reader.u2()?;
     let max_locals = reader.u2()?;
@@ -82,17 +85,17 @@ fn sizes(reader: &mut Reader) -> Result<CodeSizes, ClassErr>
     })
 }
 
-#[tactic(auto, unfolding(crate::specs::MemberReading::code_contents_at))]
+#[tactic(auto, unfolding(crate::specs::Reading::Members::code_contents_at))]
 fn code_contents(
     alloc: Global,
     reader: &mut Reader,
     texts: &Texts,
     method: u16,
 ) -> Result<CodeItem, ClassErr>
-    ensures { Gives (λ c. (c, reader.new)) result (code_contents_at texts.now method reader.old) }
+    ensures { Gives told (λ c. (c, reader.new)) result (code_contents_at texts.now method reader.old) }
 {
     let sizes = sizes(reader)?;
-    if sizes.len == 0 || sizes.len > 65535 {
+    if !is_code_len(sizes.len as usize) {
         return Err(ClassErr::CodeLength(method));
     }
     let code = copied(alloc, reader.take(sizes.len)?)?;
@@ -107,7 +110,7 @@ fn code_contents(
 }
 
 /// Reads the contents of a Code attribute (JVMS2 4.7.3), that of the method of this number.
-#[tactic(auto, unfolding(crate::specs::MemberReading::code_at))]
+#[tactic(auto, unfolding(crate::specs::Reading::Members::code_at))]
 pub(crate) fn code(
     alloc: Global,
     reader: &mut Reader,
@@ -115,7 +118,7 @@ pub(crate) fn code(
     method: u16,
     attribute: AttributeHead,
 ) -> Result<CodeItem, ClassErr>
-    ensures { Gives (λ c. (c, reader.new)) result (code_at texts.now method attribute reader.old) }
+    ensures { Gives told (λ c. (c, reader.new)) result (code_at texts.now method attribute reader.old) }
 {
     let left = reader.left();
     let code = code_contents(alloc, reader, texts, method)?;

@@ -2,11 +2,13 @@
 
 ghost use Rattle.std.specs.Prelude.{◌≡◌, ◌++◌, ◌∷◌, [], List as Items, ℕ, IfOk, None};
 ghost use Rattle.class_format.specs.declared.class.FieldItem.{FieldItem as Item};
-ghost use Rattle.class_file.specs.Reading.{Gives, counted_at, listed_at};
-ghost use Rattle.class_file.specs.Seen.{HasSeen};
+ghost use Rattle.jvm_base.specs.Told.{Gives};
+ghost use Rattle.class_file.specs.Reasons.{told};
+ghost use Rattle.class_file.specs.Reading.Words.{counted_at, listed_at};
+ghost use Rattle.class_file.specs.Reading.Seen.{HasSeen};
 ghost use Rattle.class_format.specs.Members.{field_keys};
 ghost use Rattle.class_format.specs.KnownTexts.{is_constant_at};
-ghost use Rattle.class_file.specs.MemberReading.{constant_at, field_attribute_at, field_at};
+ghost use Rattle.class_file.specs.Reading.Members.{constant_at, field_attribute_at, field_at};
 
 use crate::attribute::{AttributeHead, next_attribute};
 use crate::error::ClassErr;
@@ -20,7 +22,7 @@ use jvm_base::List;
 use std::alloc::Global;
 use std::collections::BTreeSet;
 
-#[tactic(auto, unfolding(crate::specs::MemberReading::constant_at))]
+#[tactic(auto, unfolding(crate::specs::Reading::Members::constant_at))]
 fn constant(
     reader: &mut Reader,
     texts: &Texts,
@@ -28,7 +30,7 @@ fn constant(
     kept: Option<u16>,
     attribute: AttributeHead,
 ) -> Result<Option<u16>, ClassErr>
-    ensures { Gives (λ k. (k, reader.new)) result (constant_at texts.now desc kept attribute reader.old) }
+    ensures { Gives told (λ k. (k, reader.new)) result (constant_at texts.now desc kept attribute reader.old) }
 {
     if kept.is_some() {
         return Err(ClassErr::AttrLength(attribute.at));
@@ -44,14 +46,14 @@ fn constant(
     Ok(Some(value))
 }
 
-#[tactic(auto, unfolding(crate::specs::MemberReading::field_attribute_at, crate::specs::MemberReading::skipped_at))]
+#[tactic(auto, unfolding(crate::specs::Reading::Members::field_attribute_at, crate::specs::Reading::Members::skipped_at))]
 fn field_attribute(
     reader: &mut Reader,
     texts: &Texts,
     head: MemberHead,
     kept: Option<u16>,
 ) -> Result<Option<u16>, ClassErr>
-    ensures { Gives (λ k. (k, reader.new)) result (field_attribute_at texts.now head kept reader.old) }
+    ensures { Gives told (λ k. (k, reader.new)) result (field_attribute_at texts.now head kept reader.old) }
 {
     let attribute = next_attribute(reader, texts)?;
     if has_flag(head.flags, STATIC) && is_constant_value(texts.items(), attribute.name) {
@@ -66,7 +68,7 @@ fn field_attributes(
     texts: &Texts,
     head: MemberHead,
 ) -> Result<Option<u16>, ClassErr>
-    ensures { Gives (λ k. (k, reader.new)) result (counted_at (field_attribute_at texts.now head) None reader.old) }
+    ensures { Gives told (λ k. (k, reader.new)) result (counted_at (field_attribute_at texts.now head) None reader.old) }
 {
     let count = reader.u2()?;
     let mut constant = None;
@@ -76,13 +78,13 @@ fn field_attributes(
     Ok(constant)
 }
 
-#[tactic(auto, unfolding(crate::specs::MemberReading::field_at))]
+#[tactic(auto, unfolding(crate::specs::Reading::Members::field_at))]
 fn field(
     reader: &mut Reader,
     texts: &Texts,
     seen: &mut BTreeSet<(u16, u16)>,
 ) -> Result<FieldItem, ClassErr>
-    ensures exact { (earlier : Items Item) → HasSeen texts.now seen.old (field_keys earlier) → Gives (λ f. (f, reader.new)) result (field_at texts.now earlier reader.old) }
+    ensures exact { (earlier : Items Item) → HasSeen texts.now seen.old (field_keys earlier) → Gives told (λ f. (f, reader.new)) result (field_at texts.now earlier reader.old) }
     ensures seen { (earlier : Items Item) → HasSeen texts.now seen.old (field_keys earlier) → IfOk result (λ f. HasSeen texts.now seen.new (field_keys (earlier ++ f ∷ []))) }
 {
     let head = new_head(reader, texts, MemberKind::Field, seen)?;
@@ -101,7 +103,7 @@ pub(crate) fn fields(
     reader: &mut Reader,
     texts: &Texts,
 ) -> Result<List<FieldItem>, ClassErr>
-    ensures { Gives (λ fields. (fields, reader.new)) result (listed_at (field_at texts.now) reader.old) }
+    ensures { Gives told (λ fields. (fields, reader.new)) result (listed_at (field_at texts.now) reader.old) }
 {
     let count = reader.u2()?;
     let mut fields = List::new(alloc);

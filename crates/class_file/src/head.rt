@@ -1,11 +1,12 @@
 //! What fields and methods begin with.
 
 ghost use Rattle.std.specs.Prelude.{◌≡◌, ◌++◌, ◌∷◌, [], List, ℕ, IfOk};
-ghost use Rattle.class_file.specs.Reading.{Gives};
+ghost use Rattle.jvm_base.specs.Told.{Gives};
+ghost use Rattle.class_file.specs.Reasons.{told};
 ghost use Rattle.class_format.specs.KnownTexts.{is_named};
 ghost use Rattle.class_format.specs.Members.{is_without_receiver, is_desc_of, flags_clash};
-ghost use Rattle.class_file.specs.Seen.{HasSeen};
-ghost use Rattle.class_file.specs.MemberReading.{head_numbers_at, head_at, new_head_at};
+ghost use Rattle.class_file.specs.Reading.Seen.{HasSeen};
+ghost use Rattle.class_file.specs.Reading.Members.{head_numbers_at, head_at, new_head_at};
 
 use crate::error::ClassErr;
 use crate::reader::Reader;
@@ -15,9 +16,9 @@ use class_format::{
 use constant_pool::Texts;
 use std::collections::BTreeSet;
 
-#[tactic(auto, unfolding(crate::specs::MemberReading::head_numbers_at))]
+#[tactic(auto, unfolding(crate::specs::Reading::Members::head_numbers_at))]
 fn head_numbers(reader: &mut Reader) -> Result<MemberHead, ClassErr>
-    ensures { Gives (λ h. (h, reader.new)) result (head_numbers_at reader.old) }
+    ensures { Gives told (λ h. (h, reader.new)) result (head_numbers_at reader.old) }
 {
     let flags = reader.u2()?;
     let name = reader.u2()?;
@@ -25,9 +26,9 @@ fn head_numbers(reader: &mut Reader) -> Result<MemberHead, ClassErr>
     Ok(MemberHead { flags, name, desc })
 }
 
-#[tactic(auto, unfolding(crate::specs::MemberReading::head_at))]
+#[tactic(auto, unfolding(crate::specs::Reading::Members::head_at))]
 fn any_head(reader: &mut Reader, texts: &Texts, kind: MemberKind) -> Result<MemberHead, ClassErr>
-    ensures { Gives (λ h. (h, reader.new)) result (head_at kind texts.now reader.old) }
+    ensures { Gives told (λ h. (h, reader.new)) result (head_at kind texts.now reader.old) }
 {
     let flags_at = reader.offset();
     let name_at = reader.offset_after(2);
@@ -48,14 +49,14 @@ fn any_head(reader: &mut Reader, texts: &Texts, kind: MemberKind) -> Result<Memb
 
 /// Reads what a field or method begins with (JVMS2 4.5, 4.6). `seen` has the names and descriptors
 /// of the earlier ones of its kind, by the ranks of their texts.
-#[tactic(auto, unfolding(crate::specs::MemberReading::new_head_at))]
+#[tactic(auto, unfolding(crate::specs::Reading::Members::new_head_at))]
 pub(crate) fn new_head(
     reader: &mut Reader,
     texts: &Texts,
     kind: MemberKind,
     seen: &mut BTreeSet<(u16, u16)>,
 ) -> Result<MemberHead, ClassErr>
-    ensures exact { (keys : List (ℕ × ℕ)) → HasSeen texts.now seen.old keys → Gives (λ h. (h, reader.new)) result (new_head_at kind texts.now keys reader.old) }
+    ensures exact { (keys : List (ℕ × ℕ)) → HasSeen texts.now seen.old keys → Gives told (λ h. (h, reader.new)) result (new_head_at kind texts.now keys reader.old) }
     ensures seen { (keys : List (ℕ × ℕ)) → HasSeen texts.now seen.old keys → IfOk result (λ h. HasSeen texts.now seen.new (keys ++ (h.name, h.desc) ∷ [])) }
 {
     let at = reader.offset();

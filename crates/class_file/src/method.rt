@@ -2,10 +2,12 @@
 
 ghost use Rattle.std.specs.Prelude.{◌≡◌, ◌++◌, ◌∷◌, [], List as Items, IfOk, OnOk, length};
 ghost use Rattle.class_format.specs.declared.class.MethodItem.{MethodItem as Item};
-ghost use Rattle.class_file.specs.Reading.{Gives, counted_at, listed_at};
-ghost use Rattle.class_file.specs.Seen.{HasSeen};
+ghost use Rattle.jvm_base.specs.Told.{Gives};
+ghost use Rattle.class_file.specs.Reasons.{told};
+ghost use Rattle.class_file.specs.Reading.Words.{counted_at, listed_at};
+ghost use Rattle.class_file.specs.Reading.Seen.{HasSeen};
 ghost use Rattle.class_format.specs.Members.{method_keys, code_count};
-ghost use Rattle.class_file.specs.MemberReading.{another_code_at, method_attribute_at, method_at};
+ghost use Rattle.class_file.specs.Reading.Members.{another_code_at, method_attribute_at, method_at};
 
 use crate::attribute::{AttributeHead, next_attribute};
 use crate::code::code;
@@ -18,7 +20,7 @@ use jvm_base::{CodeItem, List};
 use std::alloc::Global;
 use std::collections::BTreeSet;
 
-#[tactic(auto, unfolding(crate::specs::MemberReading::another_code_at))]
+#[tactic(auto, unfolding(crate::specs::Reading::Members::another_code_at))]
 fn another_code(
     alloc: Global,
     reader: &mut Reader,
@@ -27,14 +29,14 @@ fn another_code(
     codes: &mut List<CodeItem>,
     attribute: AttributeHead,
 ) -> Result<(), ClassErr>
-    ensures { Gives (λ _. (codes.new, reader.new)) result (another_code_at texts.now method codes.old attribute reader.old) }
+    ensures { Gives told (λ _. (codes.new, reader.new)) result (another_code_at texts.now method codes.old attribute reader.old) }
 {
     let code = code(alloc, reader, texts, method, attribute)?;
     codes.push(code)?;
     Ok(())
 }
 
-#[tactic(auto, unfolding(crate::specs::MemberReading::method_attribute_at, crate::specs::MemberReading::skipped_at))]
+#[tactic(auto, unfolding(crate::specs::Reading::Members::method_attribute_at, crate::specs::Reading::Members::skipped_at))]
 fn method_attribute(
     alloc: Global,
     reader: &mut Reader,
@@ -42,7 +44,7 @@ fn method_attribute(
     method: u16,
     codes: &mut List<CodeItem>,
 ) -> Result<(), ClassErr>
-    ensures { Gives (λ _. (codes.new, reader.new)) result (method_attribute_at texts.now method codes.old reader.old) }
+    ensures { Gives told (λ _. (codes.new, reader.new)) result (method_attribute_at texts.now method codes.old reader.old) }
 {
     let attribute = next_attribute(reader, texts)?;
     if is_code(texts.items(), attribute.name) {
@@ -59,7 +61,7 @@ fn method_attributes(
     texts: &Texts,
     method: u16,
 ) -> Result<List<CodeItem>, ClassErr>
-    ensures { Gives (λ codes. (codes, reader.new)) result (counted_at (method_attribute_at texts.now method) [] reader.old) }
+    ensures { Gives told (λ codes. (codes, reader.new)) result (counted_at (method_attribute_at texts.now method) [] reader.old) }
 {
     let count = reader.u2()?;
     let mut codes = List::new(alloc);
@@ -69,7 +71,7 @@ fn method_attributes(
     Ok(codes)
 }
 
-#[tactic(auto, unfolding(crate::specs::MemberReading::method_at))]
+#[tactic(auto, unfolding(crate::specs::Reading::Members::method_at))]
 fn method(
     alloc: Global,
     reader: &mut Reader,
@@ -77,7 +79,7 @@ fn method(
     number: u16,
     seen: &mut BTreeSet<(u16, u16)>,
 ) -> Result<MethodItem, ClassErr>
-    ensures exact { (earlier : Items Item) → length earlier ≡ number → HasSeen texts.now seen.old (method_keys earlier) → Gives (λ m. (m, reader.new)) result (method_at texts.now earlier reader.old) }
+    ensures exact { (earlier : Items Item) → length earlier ≡ number → HasSeen texts.now seen.old (method_keys earlier) → Gives told (λ m. (m, reader.new)) result (method_at texts.now earlier reader.old) }
     ensures seen { (earlier : Items Item) → HasSeen texts.now seen.old (method_keys earlier) → IfOk result (λ m. HasSeen texts.now seen.new (method_keys (earlier ++ m ∷ []))) }
 {
     let head = new_head(reader, texts, MemberKind::Method, seen)?;
@@ -99,7 +101,7 @@ pub(crate) fn methods(
     reader: &mut Reader,
     texts: &Texts,
 ) -> Result<List<MethodItem>, ClassErr>
-    ensures { Gives (λ methods. (methods, reader.new)) result (listed_at (method_at texts.now) reader.old) }
+    ensures { Gives told (λ methods. (methods, reader.new)) result (listed_at (method_at texts.now) reader.old) }
 {
     let count = reader.u2()?;
     let mut methods = List::new(alloc);

@@ -2,7 +2,9 @@
 
 ghost use Rattle.std.specs.Prelude.{◌≡◌, ◌-◌, ◌==◌, ◌≤◌, ◌<◌, ◌^◌, length};
 ghost use Rattle.std.specs.Int.{w8, w16, w32, w64};
-ghost use Rattle.class_file.specs.Reading.{Gives, number_at, bytes_at, offset_of, after};
+ghost use Rattle.jvm_base.specs.Told.{Gives};
+ghost use Rattle.class_file.specs.Reasons.{told};
+ghost use Rattle.class_file.specs.Reading.Words.{number_at, bytes_at, offset_of, after};
 
 use crate::error::ClassErr;
 use byteorder::{BigEndian, ByteOrder};
@@ -69,7 +71,7 @@ impl<'a> Reader<'a> {
 
     /// One byte.
     pub(crate) fn u1(&mut self) -> Result<u8, ClassErr>
-        ensures { Gives (λ n. (n, self.new)) result (number_at w8 self.old) }
+        ensures { Gives told (λ n. (n, self.new)) result (number_at w8 self.old) }
     {
         if self.rest.is_empty() {
             return Err(ClassErr::Cut(self.total as u64));
@@ -81,7 +83,7 @@ impl<'a> Reader<'a> {
 
     /// A number of two bytes.
     pub(crate) fn u2(&mut self) -> Result<u16, ClassErr>
-        ensures { Gives (λ n. (n, self.new)) result (number_at w16 self.old) }
+        ensures { Gives told (λ n. (n, self.new)) result (number_at w16 self.old) }
     {
         if self.rest.len() < 2 {
             return Err(ClassErr::Cut(self.total as u64));
@@ -93,7 +95,7 @@ impl<'a> Reader<'a> {
 
     /// A number of four bytes.
     pub(crate) fn u4(&mut self) -> Result<u32, ClassErr>
-        ensures { Gives (λ n. (n, self.new)) result (number_at w32 self.old) }
+        ensures { Gives told (λ n. (n, self.new)) result (number_at w32 self.old) }
     {
         if self.rest.len() < 4 {
             return Err(ClassErr::Cut(self.total as u64));
@@ -105,7 +107,7 @@ impl<'a> Reader<'a> {
 
     /// A number of eight bytes.
     pub(crate) fn u8(&mut self) -> Result<u64, ClassErr>
-        ensures { Gives (λ n. (n, self.new)) result (number_at w64 self.old) }
+        ensures { Gives told (λ n. (n, self.new)) result (number_at w64 self.old) }
     {
         if self.rest.len() < 8 {
             return Err(ClassErr::Cut(self.total as u64));
@@ -117,7 +119,7 @@ impl<'a> Reader<'a> {
 
     /// So many bytes.
     pub(crate) fn take(&mut self, len: u32) -> Result<&'a [u8], ClassErr>
-        ensures { Gives (λ front. (front.now, self.new)) result (bytes_at len self.old) }
+        ensures { Gives told (λ front. (front.now, self.new)) result (bytes_at len self.old) }
     {
         let len = len as usize;
         if self.rest.len() < len {

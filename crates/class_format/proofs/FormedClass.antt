@@ -17,7 +17,7 @@ use Rattle.class_format.specs.KnownTexts.{is_code, is_constant_value, is_constan
 use Rattle.class_format.specs.Members.{is_among, field_keys, method_keys, field_key, method_key}
 use Rattle.class_format.specs.Spelling.{Attribute, Member, number2, code_bytes}
 use Rattle.class_format.specs.Meaning.{IsPool, FormedPool, AreAttributes, contents_of, keeps_constant, holds_code, IsConstant, IsCode, HasCode, IsField, IsMethod, Spelled, lowest_that, constant_attributes, code_attributes, plain_field, plain_method, IsClass}
-use Rattle.class_format.specs.Formed.{has_text_that, constant_passes, FitsConstant, FormedField, FormedCodeOf, FormedMethod, AreNew, FormedMembers, FormedParts}
+use Rattle.class_format.specs.Judging.Formed.{has_text_that, constant_passes, FitsConstant, FormedField, FormedCodeOf, FormedMethod, AreNew, FormedMembers, FormedParts}
 use Rattle.class_format.proofs.Recursion.{all_of, by_recursion}
 use Rattle.class_format.proofs.Lengths.{code-length}
 

@@ -14,11 +14,11 @@ use Rattle.std.proofs.lemmas.List.Sorted.{IsPermutation-sym}
 use Rattle.jvm_base.specs.declared.pool.PoolItem.{PoolItem}
 use Rattle.jvm_base.specs.declared.pool.PoolItem.TheVariants.{Gap}
 use Rattle.constant_pool.specs.Items.{text_at, is_same_text}
-use Rattle.constant_pool.specs.Ranks.{rank_at}
+use Rattle.constant_pool.specs.Facts.Ranks.{rank_at}
 use Rattle.constant_pool.proofs.RankLaws.{same_rank}
-use Rattle.class_format.specs.Keys.{key_cmp, key_ranks}
+use Rattle.class_format.specs.Judging.Keys.{key_cmp, key_ranks}
 use Rattle.class_format.specs.Members.{is_among}
-use Rattle.class_format.specs.Formed.{AreNew}
+use Rattle.class_format.specs.Judging.Formed.{AreNew}
 
 pub key_total : IsTotalOrder key_cmp
 key_total = then_total (on_total (λ (k : ℕ × ℕ). k.0) nat_cmp_total) (on_total (λ (k : ℕ × ℕ). k.1) nat_cmp_total)

@@ -4,5 +4,4 @@ pub mod KnownTexts
 pub mod Members
 pub mod Spelling
 pub mod Meaning
-pub mod Keys
-pub mod Formed
+pub mod Judging

@@ -1,5 +1,5 @@
 -- What is asked of fields and methods (JVMS2 4.5, 4.6, 4.10).
-use Rattle.std.specs.Prelude.{ℕ, List, map, Bool, ◌&&◌, ◌||◌, if◌then◌else◌}
+use Rattle.std.specs.Prelude.{ℕ, List, map, Bool, nat_lt, ◌&&◌, ◌||◌, if◌then◌else◌}
 use Rattle.std.specs.List.{list_any}
 use Rattle.jvm_base.specs.declared.pool.PoolItem.{PoolItem}
 use Rattle.jvm_base.specs.Descriptors.{is_method_of}
@@ -47,6 +47,10 @@ field_keys fields = map field_key fields
 -- of methods
 abbrev pub method_keys : List MethodItem → List (ℕ × ℕ)
 method_keys methods = map method_key methods
+
+-- code has 1 to 65,535 bytes (JVMS2 4.8.1)
+abbrev pub is_code_len : ℕ → Bool
+is_code_len n = nat_lt 0 n && nat_lt n 65536
 
 -- how many Code attributes a method has
 abbrev pub code_count : ℕ → ℕ

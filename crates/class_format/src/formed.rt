@@ -8,7 +8,7 @@ ghost use Rattle.constant_pool.specs.Items.{is_the_text, is_class_at, is_item_th
 ghost use Rattle.class_format.specs.KnownTexts.{is_code, is_constant_value};
 ghost use Rattle.constant_pool.specs.Links.{bad_link};
 ghost use Rattle.class_format.specs.Meaning.{FitsLink, IsKnown, AreNames, IsClass};
-ghost use Rattle.class_format.specs.Formed.{has_text_that, FormedMembers, FormedParts};
+ghost use Rattle.class_format.specs.Judging.Formed.{has_text_that, FormedMembers, FormedParts};
 
 use crate::class::{COUNT_LIMIT, ClassFile, FieldItem, MethodItem};
 use crate::flags::class_flags_clash;

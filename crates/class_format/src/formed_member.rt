@@ -5,15 +5,15 @@ ghost use Rattle.std.specs.List.{AllByRecursion};
 ghost use Rattle.class_format.specs.Flags.{is_static};
 ghost use Rattle.constant_pool.specs.Items.{text_of, is_text_that};
 ghost use Rattle.class_format.specs.KnownTexts.{is_named, is_code, is_constant_value, is_constant_at};
-ghost use Rattle.class_format.specs.Members.{is_without_receiver, is_desc_of, flags_clash, code_count};
+ghost use Rattle.class_format.specs.Members.{is_without_receiver, is_desc_of, flags_clash, code_count, is_code_len};
 ghost use Rattle.class_format.specs.Meaning.{AreBytes, FitsEntry, FitsSizes, IsHead};
-ghost use Rattle.class_format.specs.Formed.{has_text_that, constant_passes, FitsConstant, FormedField, FormedCode, FormedCodeOf, FormedMethod};
+ghost use Rattle.class_format.specs.Judging.Formed.{has_text_that, constant_passes, FitsConstant, FormedField, FormedCode, FormedCodeOf, FormedMethod};
 
 use crate::class::{COUNT_LIMIT, FieldItem, MethodItem};
 use crate::flags::{STATIC, has_flag};
 use crate::known_texts::{is_constant_at, is_named};
 use crate::member_kind::{
-    MemberHead, MemberKind, code_count, flags_clash, is_desc_of, is_without_receiver,
+    MemberHead, MemberKind, code_count, flags_clash, is_code_len, is_desc_of, is_without_receiver,
 };
 use constant_pool::{Texts, is_class_at};
 use jvm_base::{CodeItem, TableItem};
@@ -103,7 +103,7 @@ fn are_entries(texts: &Texts, table: &[TableItem]) -> bool
 fn fits_code(max_stack: u16, max_locals: u16, code: &[u8]) -> bool
     ensures { IsTrue result ↔ (FitsSizes max_stack max_locals (length code.now) × AreBytes code.now) }
 {
-    !code.is_empty() && code.len() < 65536
+    is_code_len(code.len())
 }
 
 fn is_formed_code(texts: &Texts, names: AttributeNames, code: &CodeItem) -> bool

@@ -4,7 +4,7 @@ ghost use Rattle.std.specs.Prelude.{◌≡◌, ◌↔◌, ◌<◌, ◌^◌, fals
 ghost use Rattle.jvm_base.specs.Units.{AreUnits};
 ghost use Rattle.constant_pool.specs.Items.{is_wide};
 ghost use Rattle.class_format.specs.Meaning.{FitsItem, AreItems, IsPool, FormedPool};
-ghost use Rattle.class_format.specs.Formed.{Follows};
+ghost use Rattle.class_format.specs.Judging.Formed.{Follows};
 
 use crate::class::COUNT_LIMIT;
 use constant_pool::is_wide;

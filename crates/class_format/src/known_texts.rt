@@ -5,7 +5,7 @@ ghost use Rattle.std.specs.Option.{option_map_or};
 ghost use Rattle.constant_pool.specs.Items.{is_the_text, is_text_that};
 ghost use Rattle.class_format.specs.KnownTexts.{is_named, is_clinit, is_code, is_constant_value, is_string_desc, is_int_desc, is_constant, is_constant_at};
 
-use constant_pool::{text_at, units_at};
+use constant_pool::{item_at, text_at, units_at};
 use jvm_base::PoolItem;
 
 /// `<clinit>`
@@ -97,7 +97,7 @@ fn is_constant(desc: &[u16], item: &PoolItem) -> bool
 pub fn is_constant_at(pool: &[PoolItem], desc: u16, value: u16) -> bool
     ensures { result ≡ is_constant_at pool.now desc value }
 {
-    match (text_at(pool, desc), pool.get(value as usize)) {
+    match (text_at(pool, desc), item_at(pool, value)) {
         (Some(desc), Some(item)) => is_constant(desc.as_slice(), item),
         _ => false,
     }

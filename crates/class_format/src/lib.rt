@@ -18,6 +18,6 @@ pub use known_texts::{
     CODE, CONSTANT_VALUE, is_clinit, is_code, is_constant_at, is_constant_value, is_named,
 };
 pub use member_kind::{
-    MemberHead, MemberKind, code_count, flags_clash, is_desc_of, is_without_receiver,
+    MemberHead, MemberKind, code_count, flags_clash, is_code_len, is_desc_of, is_without_receiver,
 };
 pub use version::{MAGIC, is_other_version};

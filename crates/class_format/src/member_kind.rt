@@ -1,7 +1,7 @@
 //! Fields and methods, and what their flags ask.
 
 ghost use Rattle.std.specs.Prelude.{◌≡◌};
-ghost use Rattle.class_format.specs.Members.{is_without_receiver, is_desc_of, flags_clash, code_count};
+ghost use Rattle.class_format.specs.Members.{is_without_receiver, is_desc_of, flags_clash, code_count, is_code_len};
 
 use crate::flags::{ABSTRACT, NATIVE, STATIC, field_flags_clash, has_flag, method_flags_clash};
 use crate::known_texts::is_clinit;
@@ -59,4 +59,11 @@ pub fn code_count(flags: u16) -> usize
     } else {
         1
     }
+}
+
+/// Whether code may have so many bytes (JVMS2 4.8.1).
+pub fn is_code_len(len: usize) -> bool
+    ensures { result ≡ is_code_len len }
+{
+    0 < len && len < 65536
 }

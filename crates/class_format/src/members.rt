@@ -4,8 +4,8 @@ ghost use Rattle.std.specs.Prelude.{◌≡◌, ◌↔◌, ◌<◌, ◌^◌, [], 
 ghost use Rattle.std.specs.List.{IsDistinct};
 ghost use Rattle.std.specs.Ordering.{eq_by_cmp};
 ghost use Rattle.jvm_base.specs.declared.pool.PoolItem.TheVariants.{Gap};
-ghost use Rattle.class_format.specs.Keys.{key_cmp, key_ranks};
-ghost use Rattle.class_format.specs.Formed.{AreNew};
+ghost use Rattle.class_format.specs.Judging.Keys.{key_cmp, key_ranks};
+ghost use Rattle.class_format.specs.Judging.Formed.{AreNew};
 ghost use Rattle.class_format.specs.Members.{field_key, method_key};
 
 use crate::class::{COUNT_LIMIT, FieldItem, MethodItem};

@@ -15,11 +15,11 @@ use Rattle.class_format.specs.KnownTexts.{is_code, is_constant_value}
 use Rattle.constant_pool.specs.Items.{is_wide}
 use Rattle.class_format.specs.Spelling.{number2, listed, attribute_bytes, member_bytes, code_bytes}
 use Rattle.class_format.specs.Meaning.{FitsItem, AreItems, IsPool, IsMethod, HasCode, Spelled, lowest_that, constant_attributes, code_attributes, plain_field, plain_method, plain, spelling, IsClass}
-use Rattle.class_file.specs.ClassReading.{class_at}
+use Rattle.class_file.specs.Reading.Classes.{class_at}
 use Rattle.class_file.proofs.ClassLaws.{class_again}
 use Rattle.jvm_base.specs.declared.memory.NoMemory.{NoMemory}
-use Rattle.class_write.specs.Parts.{constant_bytes, method_code_bytes, field_bytes, method_bytes, class_bytes}
-use Rattle.class_write.specs.Written.{FitsWritten, FitsCode}
+use Rattle.class_write.specs.Writing.Parts.{constant_bytes, method_code_bytes, field_bytes, method_bytes, class_bytes}
+use Rattle.class_write.specs.Writing.Written.{FitsWritten, FitsCode}
 
 -- ---- a place that isn't there
 

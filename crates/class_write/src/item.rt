@@ -3,7 +3,7 @@
 ghost use Rattle.std.specs.Prelude.{◌≡◌, ◌++◌, ◌∷◌, ◌<◌, ◌^◌, [], length, OnOk};
 ghost use Rattle.jvm_base.specs.Text.{text_bytes};
 ghost use Rattle.class_format.specs.Spelling.{number2, item_bytes};
-ghost use Rattle.class_write.specs.Written.{FitsWritten};
+ghost use Rattle.class_write.specs.Writing.Written.{FitsWritten};
 
 use crate::number::{push_u2, push_u4, push_u8};
 use jvm_base::{NoMemory, PoolItem, Units};

@@ -3,8 +3,8 @@
 ghost use Rattle.std.specs.Prelude.{◌≡◌, ◌++◌, ◌∷◌, ◌<◌, ◌^◌, ◌*◌, ◌+◌, [], length, Some, None, OnOk};
 ghost use Rattle.std.specs.List.{flat_map};
 ghost use Rattle.class_format.specs.Spelling.{number2, number4, listed, table_bytes, attribute_bytes, code_bytes};
-ghost use Rattle.class_write.specs.Parts.{constant_bytes, method_code_bytes, field_bytes, method_bytes};
-ghost use Rattle.class_write.specs.Written.{FitsCode};
+ghost use Rattle.class_write.specs.Writing.Parts.{constant_bytes, method_code_bytes, field_bytes, method_bytes};
+ghost use Rattle.class_write.specs.Writing.Written.{FitsCode};
 
 use crate::number::{push_u2, push_u4};
 use class_format::{FieldItem, MethodItem};

@@ -2,11 +2,11 @@
 
 ghost use Rattle.std.specs.Prelude.{◌≡◌, ◌++◌, ◌<◌, ◌^◌, length, position, All, IfOk, IfSome, OnOk, false};
 ghost use Rattle.constant_pool.specs.Items.{is_item_that, is_the_text};
-ghost use Rattle.class_file.specs.ClassReading.{class_at};
+ghost use Rattle.class_file.specs.Reading.Classes.{class_at};
 ghost use Rattle.class_format.specs.Spelling.{number2, listed, item_bytes};
 ghost use Rattle.class_format.specs.Meaning.{lowest_that, spelling, IsClass};
-ghost use Rattle.class_write.specs.Parts.{field_bytes, method_bytes, class_bytes};
-ghost use Rattle.class_write.specs.Written.{FitsWritten, FitsCode, IsWritable};
+ghost use Rattle.class_write.specs.Writing.Parts.{field_bytes, method_bytes, class_bytes};
+ghost use Rattle.class_write.specs.Writing.Written.{FitsWritten, FitsCode, IsWritable};
 
 use crate::item::push_item;
 use crate::member::{push_field, push_method};

@@ -15,8 +15,8 @@ use Rattle.std.proofs.lemmas.Map.Lookups.{exact_bytes, exact_unsigned}
 use Rattle.std.proofs.lemmas.Option.{get_or_from_slice_get, slice_get-get_or, slice_get-map, slice_get_within}
 use Rattle.jvm_base.specs.declared.pool.PoolItem.{PoolItem}
 use Rattle.jvm_base.specs.declared.pool.PoolItem.TheVariants.{Gap}
-use Rattle.constant_pool.specs.Items.{text_of, text_at, is_same_text}
-use Rattle.constant_pool.specs.Ranks.{text_cmp, comes_before, rank_of, rank_at, units}
+use Rattle.constant_pool.specs.Items.{text_of, text_at, is_same_text, units}
+use Rattle.constant_pool.specs.Facts.Ranks.{text_cmp, comes_before, rank_of, rank_at}
 use Rattle.constant_pool.proofs.SameTexts.{same_tests, same_is, same_as_itself}
 
 -- ---- counts

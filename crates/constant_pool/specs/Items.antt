@@ -1,5 +1,6 @@
 -- What an index of a constant pool finds (JVMS2 4.4).
-use Rattle.std.specs.Prelude.{ℕ, List, Bool, true, false, nat_eq, Option, Some, None, slice_get, option_and_then, is_some}
+use Rattle.std.specs.Prelude.{ℕ, List, Bool, true, false, nat_eq, Option, Some, None, slice_get, option_and_then, option_map, is_some}
+use Rattle.std.specs.Borrow.{Bor}
 use Rattle.std.specs.Option.{option_map_or}
 use Rattle.std.specs.Cmp.Lexicographic.{pointwise}
 use Rattle.jvm_base.specs.declared.pool.PoolItem.{PoolItem}
@@ -15,6 +16,10 @@ text_of _ = None
 -- the text at an index
 abbrev pub text_at : List PoolItem → ℕ → Option (List ℕ)
 text_at pool i = option_and_then text_of (slice_get pool i)
+
+-- the units of a text that is lent
+abbrev pub units : Option (Bor (List ℕ)) → Option (List ℕ)
+units text = option_map (λ t. t.now) text
 
 -- the item at an index is a text that passes
 abbrev pub is_text_that : (List ℕ → Bool) → List PoolItem → ℕ → Bool

@@ -1,4 +1,3 @@
 pub mod Items
 pub mod Links
-pub mod Texts
-pub mod Ranks
+pub mod Facts

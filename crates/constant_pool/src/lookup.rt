@@ -2,8 +2,7 @@
 
 ghost use Rattle.std.specs.Prelude.{◌≡◌, slice_get, option_and_then};
 ghost use Rattle.std.specs.Option.{option_copied};
-ghost use Rattle.constant_pool.specs.Items.{text_of, text_at, is_text_at, is_the_text, is_item_that, class_at, is_class_at, desc_index, pair_text, is_wide};
-ghost use Rattle.constant_pool.specs.Ranks.{units};
+ghost use Rattle.constant_pool.specs.Items.{text_of, text_at, is_text_at, is_the_text, is_item_that, class_at, is_class_at, desc_index, pair_text, is_wide, units};
 
 use jvm_base::{PoolItem, Units};
 
@@ -24,11 +23,18 @@ pub fn is_wide(item: &PoolItem) -> bool
     matches!(item, PoolItem::Long(_) | PoolItem::Double(_))
 }
 
+/// The item at an index.
+pub fn item_at(pool: &[PoolItem], index: u16) -> Option<&PoolItem>
+    ensures { option_copied result ≡ slice_get pool.now index }
+{
+    pool.get(index as usize)
+}
+
 /// The text at an index, if the item there is one.
 pub fn text_at(pool: &[PoolItem], index: u16) -> Option<&Units>
     ensures { option_copied result ≡ text_at pool.now index }
 {
-    match pool.get(index as usize) {
+    match item_at(pool, index) {
         Some(PoolItem::Utf8(text)) => Some(text),
         _ => None,
     }
@@ -55,7 +61,7 @@ pub fn is_text_at(pool: &[PoolItem], index: u16) -> bool
 pub fn class_at(pool: &[PoolItem], index: u16) -> Option<u16>
     ensures { result ≡ class_at pool.now index }
 {
-    match pool.get(index as usize) {
+    match item_at(pool, index) {
         Some(PoolItem::Class(name)) => Some(*name),
         _ => None,
     }
@@ -72,7 +78,7 @@ pub fn is_class_at(pool: &[PoolItem], index: u16) -> bool
 pub fn pair_desc(pool: &[PoolItem], index: u16) -> Option<u16>
     ensures { result ≡ option_and_then desc_index (slice_get pool.now index) }
 {
-    match pool.get(index as usize) {
+    match item_at(pool, index) {
         Some(PoolItem::NameAndKind { desc, .. }) => Some(*desc),
         _ => None,
     }

@@ -1,8 +1,8 @@
 //! The order of the texts of a pool.
 
 ghost use Rattle.std.specs.Prelude.{◌≡◌, ◌<◌, ◌≤◌, ◌^◌, map, length, count_by, IsPermutation, IsSorted};
-ghost use Rattle.constant_pool.specs.Items.{text_of, text_at};
-ghost use Rattle.constant_pool.specs.Ranks.{text_cmp, comes_before, rank_of, units};
+ghost use Rattle.constant_pool.specs.Items.{text_of, text_at, units};
+ghost use Rattle.constant_pool.specs.Facts.Ranks.{text_cmp, comes_before, rank_of};
 
 use crate::lookup::units_at;
 use jvm_base::PoolItem;

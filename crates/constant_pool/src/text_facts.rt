@@ -2,8 +2,8 @@
 
 ghost use Rattle.std.specs.Prelude.{◌≡◌, ◌<◌, ◌^◌, map, length, Some, slice_get, IfOk};
 ghost use Rattle.constant_pool.specs.Items.{text_of};
-ghost use Rattle.constant_pool.specs.Ranks.{rank_of};
-ghost use Rattle.constant_pool.specs.Texts.{kind_of};
+ghost use Rattle.constant_pool.specs.Facts.Ranks.{rank_of};
+ghost use Rattle.constant_pool.specs.Facts.Kinds.{kind_of};
 
 use crate::ranks::fill_ranks;
 use crate::texts::{TextKind, Texts};
@@ -47,8 +47,8 @@ impl<'a> Model for TextFacts<'a> {
     ghost use Rattle.jvm_base.specs.declared.pool.PoolItem.{PoolItem};
     ghost use Rattle.jvm_base.specs.declared.pool.PoolItem.TheVariants.{Gap};
     ghost use Rattle.constant_pool.specs.Items.{text_of};
-    ghost use Rattle.constant_pool.specs.Ranks.{rank_of};
-    ghost use Rattle.constant_pool.specs.Texts.{kind_of};
+    ghost use Rattle.constant_pool.specs.Facts.Ranks.{rank_of};
+    ghost use Rattle.constant_pool.specs.Facts.Kinds.{kind_of};
 
     ghost Value = { Items PoolItem };
 

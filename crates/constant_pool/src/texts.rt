@@ -5,10 +5,10 @@ ghost use Rattle.std.specs.Option.{option_map_or};
 ghost use Rattle.jvm_base.specs.Descriptors.{is_method_of};
 ghost use Rattle.constant_pool.specs.Items.{text_of, text_at, is_text_at, is_text_that, is_class_at, desc_index, is_pair_that};
 ghost use Rattle.constant_pool.specs.Links.{is_field_text, is_class_text};
-ghost use Rattle.constant_pool.specs.Ranks.{rank_of, rank_at};
-ghost use Rattle.constant_pool.specs.Texts.{kind_of};
+ghost use Rattle.constant_pool.specs.Facts.Ranks.{rank_of, rank_at};
+ghost use Rattle.constant_pool.specs.Facts.Kinds.{kind_of};
 
-use crate::lookup::pair_desc;
+use crate::lookup::{pair_desc, text_at};
 use jvm_base::PoolItem;
 use std::marker::Model;
 
@@ -43,8 +43,8 @@ impl<'a> Model for Texts<'a> {
     ghost use Rattle.jvm_base.specs.declared.pool.PoolItem.{PoolItem};
     ghost use Rattle.jvm_base.specs.declared.pool.PoolItem.TheVariants.{Gap};
     ghost use Rattle.constant_pool.specs.Items.{text_of};
-    ghost use Rattle.constant_pool.specs.Ranks.{rank_of};
-    ghost use Rattle.constant_pool.specs.Texts.{kind_of};
+    ghost use Rattle.constant_pool.specs.Facts.Ranks.{rank_of};
+    ghost use Rattle.constant_pool.specs.Facts.Kinds.{kind_of};
 
     ghost Value = { Items PoolItem };
 
@@ -111,12 +111,12 @@ impl<'a> Texts<'a> {
     pub fn is_class_text(&self, index: u16) -> bool
         ensures { result ≡ is_text_that is_class_text self.now index }
     {
-        match self.pool.get(index as usize) {
-            Some(PoolItem::Utf8(units)) => match units.as_slice() {
+        match text_at(self.pool, index) {
+            Some(units) => match units.as_slice() {
                 [] => false,
                 [first, ..] => *first != 91 || self.is_field(index),
             },
-            _ => false,
+            None => false,
         }
     }
 

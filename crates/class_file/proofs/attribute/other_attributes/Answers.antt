@@ -1,5 +1,5 @@
 use Rattle.std.proofs.lemmas.Result.{err_from_is_err_and}
-use Rattle.class_file.specs.MemberReading.{other_at}
+use Rattle.class_file.specs.Reading.Members.{other_at}
 use Rattle.class_file.proofs.EachLaws.{starts, fails_count, goes_on, ends, is_done}
 use Rattle.class_file.proofs.attribute.other_attributes.Goals as goal
 

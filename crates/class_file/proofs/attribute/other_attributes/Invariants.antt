@@ -1,6 +1,6 @@
 use Rattle.std.proofs.Common.{◌≡◌, ◌-◌}
-use Rattle.class_file.specs.Reading.{each_at, counted_at}
-use Rattle.class_file.specs.MemberReading.{other_at}
+use Rattle.class_file.specs.Reading.Words.{each_at, counted_at}
+use Rattle.class_file.specs.Reading.Members.{other_at}
 use Rattle.class_file.proofs.attribute.other_attributes.Given as goal
 
 abbrev pub invariant-loop : goal.invariant-loop

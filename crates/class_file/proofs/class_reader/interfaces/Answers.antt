@@ -1,7 +1,7 @@
 use Rattle.std.proofs.Common.{[]}
 use Rattle.std.proofs.lemmas.Result.{err_from_is_err_and}
-use Rattle.class_file.specs.Reading.{adding}
-use Rattle.class_file.specs.ClassReading.{interface_at}
+use Rattle.class_file.specs.Reading.Words.{adding}
+use Rattle.class_file.specs.Reading.Classes.{interface_at}
 use Rattle.class_file.proofs.EachLaws.{starts, fails_count, adds, adds_no, is_done}
 use Rattle.class_file.proofs.class_reader.interfaces.Goals as goal
 

@@ -1,6 +1,6 @@
 use Rattle.std.proofs.Common.{◌≡◌, ◌-◌}
-use Rattle.class_file.specs.Reading.{each_at, adding, listed_at}
-use Rattle.class_file.specs.MemberReading.{table_item_at}
+use Rattle.class_file.specs.Reading.Words.{each_at, adding, listed_at}
+use Rattle.class_file.specs.Reading.Members.{table_item_at}
 use Rattle.class_file.proofs.code.table.Given as goal
 
 abbrev pub invariant-loop : goal.invariant-loop

@@ -1,7 +1,7 @@
 use Rattle.std.proofs.Common.{◌≡◌, ◌-◌}
 use Rattle.std.specs.Prelude.{None}
-use Rattle.class_file.specs.Reading.{each_at, counted_at}
-use Rattle.class_file.specs.MemberReading.{field_attribute_at}
+use Rattle.class_file.specs.Reading.Words.{each_at, counted_at}
+use Rattle.class_file.specs.Reading.Members.{field_attribute_at}
 use Rattle.class_file.proofs.field.field_attributes.Given as goal
 
 abbrev pub invariant-loop : goal.invariant-loop

@@ -1,8 +1,8 @@
 use Rattle.std.proofs.Common.{◌≡◌, ◌-◌}
-use Rattle.class_file.specs.Reading.{each_at, adding, listed_at}
+use Rattle.class_file.specs.Reading.Words.{each_at, adding, listed_at}
 use Rattle.class_format.specs.Members.{field_keys}
-use Rattle.class_file.specs.Seen.{HasSeen}
-use Rattle.class_file.specs.MemberReading.{field_at}
+use Rattle.class_file.specs.Reading.Seen.{HasSeen}
+use Rattle.class_file.specs.Reading.Members.{field_at}
 use Rattle.class_file.proofs.field.fields.Given as goal
 
 abbrev pub invariant-loop : goal.invariant-loop

@@ -1,7 +1,7 @@
 use Rattle.std.proofs.Common.{◌≡◌, ℕ, true, false, refl, cond, sym, subst, ap, ◌∙◌}
 use Rattle.std.specs.BTreeMap.{is_at}
 use Rattle.std.specs.BTreeSet.{contains}
-use Rattle.class_format.specs.Keys.{key_cmp, key_ranks}
+use Rattle.class_format.specs.Judging.Keys.{key_cmp, key_ranks}
 use Rattle.class_file.proofs.SeenLaws.{seen_more, was_there, was_new, is_twice, is_new}
 use Rattle.class_file.proofs.head.new_head.Goals as goal
 

@@ -1,6 +1,6 @@
 use Rattle.std.proofs.Common.{[]}
 use Rattle.std.proofs.lemmas.Result.{err_from_is_err_and}
-use Rattle.class_file.specs.MemberReading.{method_attribute_at}
+use Rattle.class_file.specs.Reading.Members.{method_attribute_at}
 use Rattle.class_file.proofs.EachLaws.{starts, fails_count, goes_on, ends, is_done}
 use Rattle.class_file.proofs.method.method_attributes.Goals as goal
 

@@ -1,6 +1,6 @@
 use Rattle.std.proofs.Common.{◌≡◌, ◌-◌, []}
-use Rattle.class_file.specs.Reading.{each_at, counted_at}
-use Rattle.class_file.specs.MemberReading.{method_attribute_at}
+use Rattle.class_file.specs.Reading.Words.{each_at, counted_at}
+use Rattle.class_file.specs.Reading.Members.{method_attribute_at}
 use Rattle.class_file.proofs.method.method_attributes.Given as goal
 
 abbrev pub invariant-loop : goal.invariant-loop

@@ -1,7 +1,7 @@
 use Rattle.std.proofs.Common.{refl, arith, length-append, ◌∷◌, []}
 use Rattle.std.proofs.lemmas.Result.{err_from_is_err_and}
-use Rattle.class_file.specs.Reading.{adding}
-use Rattle.class_file.specs.MemberReading.{method_at}
+use Rattle.class_file.specs.Reading.Words.{adding}
+use Rattle.class_file.specs.Reading.Members.{method_at}
 use Rattle.class_file.proofs.EachLaws.{starts, fails_count, adds, adds_no, is_done}
 use Rattle.class_file.proofs.method.methods.Goals as goal
 

@@ -1,8 +1,8 @@
 use Rattle.std.proofs.Common.{◌≡◌, ◌-◌, length}
-use Rattle.class_file.specs.Reading.{each_at, adding, listed_at}
+use Rattle.class_file.specs.Reading.Words.{each_at, adding, listed_at}
 use Rattle.class_format.specs.Members.{method_keys}
-use Rattle.class_file.specs.Seen.{HasSeen}
-use Rattle.class_file.specs.MemberReading.{method_at}
+use Rattle.class_file.specs.Reading.Seen.{HasSeen}
+use Rattle.class_file.specs.Reading.Members.{method_at}
 use Rattle.class_file.proofs.method.methods.Given as goal
 
 abbrev pub invariant-loop-number : goal.invariant-loop-number

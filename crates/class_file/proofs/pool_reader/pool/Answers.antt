@@ -1,7 +1,7 @@
 use Rattle.std.proofs.Common.{arith, refl, length-append, ◌∷◌, []}
 use Rattle.std.proofs.lemmas.Result.{err_from_is_err_and}
-use Rattle.class_file.specs.PoolReading.{next_item_at, pool_at}
-use Rattle.class_file.specs.Reading.{adding}
+use Rattle.class_file.specs.Reading.Pools.{next_item_at, pool_at}
+use Rattle.class_file.specs.Reading.Words.{adding}
 use Rattle.class_file.proofs.EachLaws.{stays_front, adds, adds_no, is_done}
 use Rattle.class_file.proofs.pool_reader.pool.Goals as goal
 

@@ -1,7 +1,7 @@
 use Rattle.std.proofs.Common.{◌≡◌, ◌-◌, ◌≤◌, max, length, slice_get, Some}
 use Rattle.jvm_base.specs.declared.pool.PoolItem.TheVariants.{Gap}
-use Rattle.class_file.specs.Reading.{each_at, adding}
-use Rattle.class_file.specs.PoolReading.{next_item_at, pool_at}
+use Rattle.class_file.specs.Reading.Words.{each_at, adding}
+use Rattle.class_file.specs.Reading.Pools.{next_item_at, pool_at}
 use Rattle.class_file.proofs.pool_reader.pool.Given as goal
 
 abbrev pub invariant-loop : goal.invariant-loop

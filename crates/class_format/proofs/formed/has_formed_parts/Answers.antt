@@ -1,5 +1,5 @@
 use Rattle.std.proofs.Common.{length, sym}
-use Rattle.constant_pool.specs.Texts.{kind_of}
+use Rattle.constant_pool.specs.Facts.Kinds.{kind_of}
 use Rattle.jvm_base.specs.declared.pool.PoolItem.TheVariants.{Gap}
 use Rattle.class_format.proofs.Rooms.{front_length}
 use Rattle.class_format.proofs.formed.has_formed_parts.Goals as goal

@@ -1,4 +1,4 @@
-use Rattle.class_format.specs.Formed.{FormedField}
+use Rattle.class_format.specs.Judging.Formed.{FormedField}
 use Rattle.class_format.proofs.FormedLaws.{all_more}
 use Rattle.class_format.proofs.formed_member.are_formed_fields.Goals as goal
 

@@ -1,5 +1,5 @@
 use Rattle.std.proofs.Common.{subst}
-use Rattle.class_format.specs.Formed.{FormedMethod}
+use Rattle.class_format.specs.Judging.Formed.{FormedMethod}
 use Rattle.class_format.proofs.FormedLaws.{all_more}
 use Rattle.class_format.proofs.formed_member.are_formed_methods.Goals as goal
 

@@ -1,5 +1,5 @@
 use Rattle.std.proofs.Common.{◌∙◌, ap}
-use Rattle.class_format.specs.Keys.{key_ranks}
+use Rattle.class_format.specs.Judging.Keys.{key_ranks}
 use Rattle.class_format.proofs.KeyLaws.{keyed}
 use Rattle.constant_pool.proofs.Filled.{filled_more}
 use Rattle.class_format.proofs.members.fill_keys.Goals as goal

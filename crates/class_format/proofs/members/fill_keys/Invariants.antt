@@ -1,5 +1,5 @@
 use Rattle.constant_pool.proofs.Filled.{IsFilled}
-use Rattle.class_format.specs.Keys.{key_ranks}
+use Rattle.class_format.specs.Judging.Keys.{key_ranks}
 use Rattle.class_format.proofs.members.fill_keys.Given as goal
 
 abbrev pub invariant-loop-at : goal.invariant-loop-at

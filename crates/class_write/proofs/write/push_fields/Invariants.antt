@@ -1,7 +1,7 @@
 use Rattle.std.proofs.Common.{◌≡◌, ◌++◌, take, length}
 use Rattle.std.specs.List.{flat_map}
 use Rattle.class_format.specs.Spelling.{number2}
-use Rattle.class_write.specs.Parts.{field_bytes}
+use Rattle.class_write.specs.Writing.Parts.{field_bytes}
 use Rattle.class_write.proofs.write.push_fields.Given as goal
 
 abbrev pub invariant-loop-field : goal.invariant-loop-field

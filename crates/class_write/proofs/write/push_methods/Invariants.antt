@@ -1,7 +1,7 @@
 use Rattle.std.proofs.Common.{◌≡◌, ◌++◌, take, length}
 use Rattle.std.specs.List.{flat_map}
 use Rattle.class_format.specs.Spelling.{number2}
-use Rattle.class_write.specs.Parts.{method_bytes}
+use Rattle.class_write.specs.Writing.Parts.{method_bytes}
 use Rattle.class_write.proofs.write.push_methods.Given as goal
 
 abbrev pub invariant-loop-method : goal.invariant-loop-method

@@ -1,7 +1,7 @@
 use Rattle.std.proofs.Common.{◌≡◌, List, [], ℕ, ap, subst, ◌∙◌, IfOk}
 use Rattle.class_format.specs.Meaning.{lowest_that, plain_field, plain_method, spelling}
 use Rattle.class_format.specs.KnownTexts.{is_code, is_constant_value}
-use Rattle.class_write.specs.Written.{FitsWritten, FitsCode}
+use Rattle.class_write.specs.Writing.Written.{FitsWritten, FitsCode}
 use Rattle.class_format.proofs.Recursion.{all_of}
 use Rattle.class_write.proofs.Plain.{written-same, read_back, pool-written, codes-fit, count-fits}
 use Rattle.class_write.proofs.write.write_class.Goals as goal

@@ -1,7 +1,7 @@
 use Rattle.std.proofs.Common.{◌∙◌, ap}
 use Rattle.jvm_base.specs.declared.pool.PoolItem.TheVariants.{Gap}
 use Rattle.constant_pool.specs.Items.{text_of, text_at}
-use Rattle.constant_pool.specs.Ranks.{rank_of}
+use Rattle.constant_pool.specs.Facts.Ranks.{rank_of}
 use Rattle.constant_pool.proofs.Filled.{filled_more}
 use Rattle.constant_pool.proofs.RankLaws.{rank_among, text_there}
 use Rattle.constant_pool.proofs.ranks.fill_ranks.Goals as goal

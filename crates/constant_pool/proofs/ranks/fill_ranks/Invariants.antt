@@ -1,5 +1,5 @@
 use Rattle.constant_pool.specs.Items.{text_of}
-use Rattle.constant_pool.specs.Ranks.{rank_of}
+use Rattle.constant_pool.specs.Facts.Ranks.{rank_of}
 use Rattle.constant_pool.proofs.Filled.{IsFilled}
 use Rattle.constant_pool.proofs.ranks.fill_ranks.Given as goal
 

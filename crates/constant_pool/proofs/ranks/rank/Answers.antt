@@ -1,7 +1,7 @@
 use Rattle.std.proofs.Common.{rules}
 use Rattle.std.proofs.lemmas.List.Sorted.{IsPartitionPoint-from_clause}
 use Rattle.constant_pool.specs.Items.{text_at}
-use Rattle.constant_pool.specs.Ranks.{comes_before}
+use Rattle.constant_pool.specs.Facts.Ranks.{comes_before}
 use Rattle.constant_pool.proofs.RankLaws.{partitioned, searched}
 use Rattle.constant_pool.proofs.ranks.rank.Goals as goal
 

@@ -1,7 +1,7 @@
 use Rattle.std.proofs.Common.{rules, is_lt}
 use Rattle.std.proofs.lemmas.Fn.{always_returns_same}
 use Rattle.constant_pool.specs.Items.{text_at}
-use Rattle.constant_pool.specs.Ranks.{text_cmp}
+use Rattle.constant_pool.specs.Facts.Ranks.{text_cmp}
 use Rattle.constant_pool.proofs.RankLaws.{text_ranks}
 use Rattle.constant_pool.proofs.ranks.sort.Goals as goal
 

@@ -1,5 +1,5 @@
 use Rattle.std.proofs.Common.{◌∙◌, ap₂}
-use Rattle.constant_pool.specs.Ranks.{text_cmp}
+use Rattle.constant_pool.specs.Facts.Ranks.{text_cmp}
 use Rattle.constant_pool.proofs.RankLaws.{on_units}
 use Rattle.constant_pool.proofs.ranks.text_order.Goals as goal
 

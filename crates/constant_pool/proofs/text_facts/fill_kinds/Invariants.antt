@@ -1,4 +1,4 @@
-use Rattle.constant_pool.specs.Texts.{kind_of}
+use Rattle.constant_pool.specs.Facts.Kinds.{kind_of}
 use Rattle.constant_pool.proofs.Filled.{IsFilled}
 use Rattle.constant_pool.proofs.text_facts.fill_kinds.Given as goal
 

@@ -1,7 +1,7 @@
 use Rattle.std.proofs.Common.{◌≡◌, Some, slice_get, ap, subst, ◌∙◌}
 use Rattle.std.specs.Option.{unwrap_or}
 use Rattle.jvm_base.specs.declared.pool.PoolItem.TheVariants.{Gap}
-use Rattle.constant_pool.specs.Ranks.{rank_at}
+use Rattle.constant_pool.specs.Facts.Ranks.{rank_at}
 use Rattle.constant_pool.proofs.RankLaws.{rank_kept, tells}
 use Rattle.constant_pool.proofs.texts.Texts.rank.Goals as goal
 

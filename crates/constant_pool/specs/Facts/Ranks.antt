@@ -1,6 +1,5 @@
 -- The order of the texts of a pool.
-use Rattle.std.specs.Prelude.{ℕ, List, Bool, Option, count_by, option_map}
-use Rattle.std.specs.Borrow.{Bor}
+use Rattle.std.specs.Prelude.{ℕ, List, Bool, Option, count_by}
 use Rattle.std.specs.Cmp.Lexicographic.{slice_cmp}
 use Rattle.std.specs.Option.{option_cmp}
 use Rattle.std.specs.Ordering.{nat_cmp, is_lt}
@@ -23,7 +22,3 @@ rank_of pool text = count_by (λ item. comes_before (text_of item) text) pool
 -- of the text at an index
 abbrev pub rank_at : List PoolItem → ℕ → ℕ
 rank_at pool i = rank_of pool (text_at pool i)
-
--- the units of a text that is lent
-abbrev pub units : Option (Bor (List ℕ)) → Option (List ℕ)
-units text = option_map (λ t. t.now) text

@@ -12,9 +12,9 @@ use Rattle.class_format.specs.Spelling.{magic_number}
 use Rattle.class_format.specs.Versions.{is_other_version}
 use Rattle.constant_pool.specs.Items.{is_class_at}
 use Rattle.constant_pool.specs.Links.{bad_link}
-use Rattle.class_file.specs.MemberReading.{other_at, field_at, method_at}
-use Rattle.class_file.specs.PoolReading.{pool_at}
-use Rattle.class_file.specs.Reading.{Place, offset_of, ◌>>=◌, need, number_at, counted_at, listed_at}
+use Rattle.class_file.specs.Reading.Members.{other_at, field_at, method_at}
+use Rattle.class_file.specs.Reading.Pools.{pool_at}
+use Rattle.class_file.specs.Reading.Words.{Place, offset_of, ◌>>=◌, need, number_at, counted_at, listed_at}
 
 -- ---- versions
 

@@ -2,7 +2,7 @@
 use Rattle.std.specs.Prelude.{◌≡◌, ℕ, List}
 use Rattle.std.specs.BTreeSet.{BTreeSet, contains}
 use Rattle.jvm_base.specs.declared.pool.PoolItem.{PoolItem}
-use Rattle.class_format.specs.Keys.{key_cmp, key_ranks}
+use Rattle.class_format.specs.Judging.Keys.{key_cmp, key_ranks}
 use Rattle.class_format.specs.Members.{is_among}
 
 -- the set has exactly the ranks of these names and descriptors

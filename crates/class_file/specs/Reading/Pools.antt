@@ -8,7 +8,7 @@ use Rattle.jvm_base.specs.Text.{units_of}
 use Rattle.constant_pool.specs.Items.{is_wide}
 use Rattle.class_file.specs.declared.error.ClassErr.{ClassErr}
 use Rattle.class_file.specs.declared.error.ClassErr.TheVariants.{PoolTag, PoolText}
-use Rattle.class_file.specs.Reading.{Place, ◌>>=◌, need, want, number_at, bytes_at, each_at, adding}
+use Rattle.class_file.specs.Reading.Words.{Place, ◌>>=◌, need, want, number_at, bytes_at, each_at, adding}
 
 -- whether the last item so far is a wide one
 abbrev pub is_after_wide : List PoolItem → Bool

@@ -16,8 +16,8 @@ use Rattle.class_format.specs.declared.member_kind.MemberKind.TheVariants.{Field
 use Rattle.class_format.specs.Flags.{is_static}
 use Rattle.constant_pool.specs.Items.{is_text_at, is_text_that, is_class_at}
 use Rattle.class_format.specs.KnownTexts.{is_named, is_code, is_constant_value, is_constant_at}
-use Rattle.class_format.specs.Members.{is_without_receiver, is_desc_of, flags_clash, is_among, field_keys, method_keys, code_count}
-use Rattle.class_file.specs.Reading.{Place, offset_of, after, ◌>>=◌, need, number_at, bytes_at, counted_at, listed_at}
+use Rattle.class_format.specs.Members.{is_without_receiver, is_desc_of, flags_clash, is_among, field_keys, method_keys, code_count, is_code_len}
+use Rattle.class_file.specs.Reading.Words.{Place, offset_of, after, ◌>>=◌, need, number_at, bytes_at, counted_at, listed_at}
 
 -- ---- attributes
 
@@ -121,7 +121,7 @@ sizes_at p = do
 unfoldable pub code_contents_at : List PoolItem → ℕ → Place → Result (CodeItem × Place) ClassErr
 code_contents_at pool m p = do
   sizes ← sizes_at p
-  _ ← need (nat_lt 0 sizes.0.len && nat_lt sizes.0.len 65536) (CodeLength m)
+  _ ← need (is_code_len sizes.0.len) (CodeLength m)
   code ← bytes_at sizes.0.len sizes.1
   table ← listed_at (table_item_at pool) code.1
   others ← counted_at (other_at pool) tt table.1

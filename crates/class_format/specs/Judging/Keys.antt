@@ -3,7 +3,7 @@ use Rattle.std.specs.Prelude.{ℕ, List}
 use Rattle.std.specs.Ordering.{nat_cmp, ordering_then}
 use Rattle.std.specs.declared.cmp.Ordering.{Ordering}
 use Rattle.jvm_base.specs.declared.pool.PoolItem.{PoolItem}
-use Rattle.constant_pool.specs.Ranks.{rank_at}
+use Rattle.constant_pool.specs.Facts.Ranks.{rank_at}
 
 -- pairs by their first part, then by their second
 abbrev pub key_cmp : ℕ × ℕ → ℕ × ℕ → Ordering
