@@ -1,8 +1,8 @@
 //! The program `cjvm`: it makes the real files and streams, and calls the top call.
 #![tactic(auto)]
 
+use cjvm_io::{ErrSink, FileShelf, OutSink};
 use one_jvm::cjvm;
-use one_jvm::outside::{ErrSink, FileShelf, OutSink};
 use std::process::ExitCode;
 use std::{env, io};
 

@@ -1,5 +1,3 @@
-pub mod Answered
-pub mod Gains
 pub mod LoadLemmas
 pub mod RunLoop
 pub mod Statuses

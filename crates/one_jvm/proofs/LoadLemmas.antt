@@ -7,7 +7,7 @@ use Rattle.thin_file.specs.declared.thin.ThinErr.TheVariants as thin
 use Rattle.thin_file.specs.Thin.{IsThin}
 use Rattle.one_jvm.specs.declared.outcome.Refusal.{Refusal}
 use Rattle.one_jvm.specs.declared.outcome.Refusal.TheVariants.{Usage, File, NoFile, ReadFault, WriteFault, TooLong, NotYet, NoMemory}
-use Rattle.one_jvm.specs.Shelves.{Files, bytes_under}
+use Rattle.cjvm_io.specs.Shelves.{Files, bytes_under}
 use Rattle.one_jvm.specs.Answers.{limit}
 use Rattle.one_jvm.specs.Loading.{RefusesFile, Loaded}
 

@@ -21,11 +21,11 @@ use Rattle.one_machine.specs.Refusals.{Explains}
 use Rattle.one_machine.specs.Start.{start}
 use Rattle.one_machine.proofs.RunLaws.{leads_none, leads_more}
 use Rattle.one_machine.proofs.Reasons.{never_dead, no_uncaught, few_steps}
-use Rattle.one_jvm.specs.Causes.{Rose}
+use Rattle.cjvm_io.specs.Faults.{Rose}
 use Rattle.one_jvm.specs.Runs.{IsWhole, IsPart}
 use Rattle.one_jvm.specs.declared.running.Run.{Run}
 use Rattle.one_jvm.specs.RunSteps.{IsRunOf, Writes, Breaks}
-use Rattle.one_jvm.proofs.Gains.{appends_none, appends_more}
+use Rattle.cjvm_io.proofs.Gains.{appends_none, appends_more}
 
 -- what holds each time the loop begins
 pub record GoesOn (code : ThinCode) (so_far : Run) (before now : Option (List ℕ)) (faults_before faults : ℕ) : Type 0 where

@@ -10,8 +10,8 @@ use Rattle.one_jvm.specs.declared.outcome.Stop.{Stop}
 use Rattle.one_jvm.specs.declared.outcome.Stop.TheVariants as stop
 use Rattle.one_jvm.specs.declared.outcome.Refusal.{Refusal}
 use Rattle.one_jvm.specs.declared.outcome.Refusal.TheVariants.{Usage, File, NoFile, ReadFault, WriteFault, TooLong, NotYet, NoMemory}
-use Rattle.one_jvm.specs.Causes.{Rose}
-use Rattle.one_jvm.specs.Shelves.{Files, bytes_under}
+use Rattle.cjvm_io.specs.Faults.{Rose}
+use Rattle.cjvm_io.specs.Shelves.{Files, bytes_under}
 use Rattle.one_jvm.specs.Words.{IsRun, IsNoRun}
 use Rattle.one_jvm.specs.Outcomes.{status_of}
 use Rattle.one_jvm.specs.Answers.{limit, LacksFile, IsClassFile, HasLongFile, HasOtherFile, HasRefusal, HasRefusedFile, HasThinFile, IfTold, IsSomeRun, Faults, Because, Agrees, OneOf, Exactly, IsClosed}

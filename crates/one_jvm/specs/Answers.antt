@@ -12,8 +12,8 @@ use Rattle.one_jvm.specs.declared.outcome.Stop.{Stop}
 use Rattle.one_jvm.specs.declared.outcome.Stop.TheVariants as stop
 use Rattle.one_jvm.specs.declared.outcome.Refusal.{Refusal}
 use Rattle.one_jvm.specs.declared.outcome.Refusal.TheVariants.{Usage, File, NoFile, ReadFault, WriteFault, TooLong, NotYet, NoMemory}
-use Rattle.one_jvm.specs.Causes.{Rose}
-use Rattle.one_jvm.specs.Shelves.{Files, bytes_under}
+use Rattle.cjvm_io.specs.Faults.{Rose}
+use Rattle.cjvm_io.specs.Shelves.{Files, bytes_under}
 use Rattle.one_jvm.specs.Words.{IsRun, IsNoRun, name_of}
 use Rattle.one_jvm.specs.Outcomes.{report}
 use Rattle.one_jvm.specs.Runs.{RanTo}

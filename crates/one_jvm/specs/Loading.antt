@@ -5,8 +5,8 @@ use Rattle.thin_file.specs.Thin.{IsThin, IsThinCode}
 use Rattle.class_file.specs.Refused.{IsRefused}
 use Rattle.one_jvm.specs.declared.outcome.Refusal.{Refusal}
 use Rattle.one_jvm.specs.declared.outcome.Refusal.TheVariants.{Usage, File, NoFile, ReadFault, WriteFault, TooLong, NotYet, NoMemory}
-use Rattle.one_jvm.specs.Causes.{Rose}
-use Rattle.one_jvm.specs.Shelves.{Files, bytes_under}
+use Rattle.cjvm_io.specs.Faults.{Rose}
+use Rattle.cjvm_io.specs.Shelves.{Files, bytes_under}
 use Rattle.one_jvm.specs.Answers.{limit, IfTold, IsClassFile, IsOther}
 
 -- why bytes are refused, or a class file that isn't thin

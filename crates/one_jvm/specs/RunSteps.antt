@@ -8,7 +8,7 @@ use Rattle.one_machine.specs.Runs.{LeadsTo}
 use Rattle.one_jvm.specs.declared.running.Broken.{Broken}
 use Rattle.one_jvm.specs.declared.running.Broken.TheVariants.{WriteFault, NoMemory}
 use Rattle.one_jvm.specs.declared.running.Run.{Run}
-use Rattle.one_jvm.specs.Causes.{Rose}
+use Rattle.cjvm_io.specs.Faults.{Rose}
 
 -- the order led to the machine
 pub record IsRunOf (code : ThinCode) (run : Run) : Type 0 where

@@ -8,7 +8,7 @@ use Rattle.one_machine.specs.State.{State}
 use Rattle.one_machine.specs.Runs.{LeadsTo, end_of}
 use Rattle.one_jvm.specs.declared.outcome.Stop.{Stop}
 use Rattle.one_jvm.specs.declared.outcome.Stop.TheVariants.{Done, WriteFault, NoMemory}
-use Rattle.one_jvm.specs.Causes.{Rose}
+use Rattle.cjvm_io.specs.Faults.{Rose}
 
 -- the order is a legal one of the program, it is whole, and the sink gained exactly its output
 pub record IsWhole (code : ThinCode) (order : List Choice) (before now : Option (List ℕ)) : Type 0 where

@@ -3,7 +3,6 @@
 
 mod loading;
 mod outcome;
-pub mod outside;
 mod report;
 mod running;
 mod top;

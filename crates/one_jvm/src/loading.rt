@@ -6,7 +6,7 @@ ghost use Rattle.one_jvm.specs.Answers.{IsClassFile};
 ghost use Rattle.one_jvm.specs.Loading.{Loaded, RefusesFile};
 
 use crate::outcome::Refusal;
-use crate::outside::{Shelf, ShelfErr};
+use cjvm_io::{Shelf, ShelfErr};
 use class_file::{ClassErr, read_class};
 use std::alloc::Global;
 use thin_file::{ThinCode, ThinErr, read_thin};

@@ -1,11 +1,12 @@
 //! Reports on standard error.
 
 ghost use Rattle.std.specs.Prelude.{◌++◌, ◌∷◌, [], codes, decimal};
-ghost use Rattle.one_jvm.specs.Causes.{HasCause, GainsAll};
+ghost use Rattle.cjvm_io.specs.Faults.{HasCause};
+ghost use Rattle.cjvm_io.specs.Sinks.{GainsAll};
 ghost use Rattle.one_jvm.specs.Outcomes.{reason, report};
 
 use crate::outcome::Refusal;
-use crate::outside::{Failed, Sink, write_all};
+use cjvm_io::{Failed, Sink, write_all};
 use class_file::ClassErr;
 use itoa::Buffer;
 

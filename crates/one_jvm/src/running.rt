@@ -7,7 +7,7 @@ ghost use Rattle.one_machine.specs.Runs.{end_of};
 ghost use Rattle.one_jvm.specs.Runs.{RanTo};
 
 use crate::outcome::Stop;
-use crate::outside::{Sink, write_all};
+use cjvm_io::{Sink, write_all};
 use jvm_base::NoMemory;
 use one_machine::{Choice, End, Machine, NO_NAME, Order, StepErr};
 use std::alloc::Global;

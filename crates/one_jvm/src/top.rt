@@ -3,15 +3,15 @@
 ghost use Rattle.std.specs.Prelude.{◌≡◌, ◌↔◌, ◌⊎◌, [], ◌∷◌, Some, None, map, string_bytes};
 ghost use Rattle.one_jvm.specs.Outcomes.{status_of};
 ghost use Rattle.one_jvm.specs.Answers.{Because, Ran, Agrees, the_faults, refusal_of, IfTold, Exactly, LacksFile, HasLongFile, HasOtherFile, HasRefusedFile, HasThinFile, IsClosed, Reports};
-ghost use Rattle.one_jvm.specs.Causes.{Rose};
+ghost use Rattle.cjvm_io.specs.Faults.{Rose};
 ghost use Rattle.one_jvm.specs.Words.{IsNoRun};
 
 use crate::loading::load;
 use crate::outcome::{Outcome, Refusal, Stop, status_of};
-use crate::outside::{Failed, Shelf, Sink};
 use crate::report::write_refusal;
 use crate::running::run_program;
 use crate::words::{name_of, run_file};
+use cjvm_io::{Failed, Shelf, Sink};
 use one_machine::Order;
 use std::alloc::Global;
 

@@ -1,7 +1,7 @@
 //! Calls over memory: what they answer, and what the streams hold.
 
-use crate::outside::{MemShelf, VecSink};
 use crate::{Outcome, Refusal, Stop, cjvm};
+use cjvm_io::{MemShelf, VecSink};
 use class_file::ClassErr;
 use std::alloc::{AllocError, Global};
 use std::test::Fail;

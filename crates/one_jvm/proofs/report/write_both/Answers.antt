@@ -1,4 +1,4 @@
-use Rattle.one_jvm.proofs.Gains.{gains_then}
+use Rattle.cjvm_io.proofs.Gains.{gains_then}
 use Rattle.one_jvm.proofs.report.write_both.Goals as goal
 
 pub returns-clause-bytes : goal.returns-clause-bytes

@@ -1,5 +1,5 @@
 use Rattle.std.proofs.Common.{◌++◌, codes}
-use Rattle.one_jvm.proofs.Gains.{gains_then, gains_front}
+use Rattle.cjvm_io.proofs.Gains.{gains_then, gains_front}
 use Rattle.one_jvm.proofs.report.write_file.Goals as goal
 
 pub returns-in_err-write_both-clause-bytes : goal.returns-in_err-write_both-clause-bytes

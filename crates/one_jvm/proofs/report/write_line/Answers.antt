@@ -1,5 +1,5 @@
 use Rattle.std.proofs.Common.{◌++◌, ◌∷◌, []}
-use Rattle.one_jvm.proofs.Gains.{gains_then}
+use Rattle.cjvm_io.proofs.Gains.{gains_then}
 use Rattle.one_jvm.proofs.report.write_line.Goals as goal
 
 pub returns-clause-bytes : goal.returns-clause-bytes

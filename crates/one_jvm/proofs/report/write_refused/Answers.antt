@@ -1,6 +1,6 @@
 use Rattle.std.proofs.Common.{◌++◌, ◌∷◌, [], codes}
 use Rattle.one_jvm.specs.Outcomes.{reason}
-use Rattle.one_jvm.proofs.Gains.{gains_then, gains_front}
+use Rattle.cjvm_io.proofs.Gains.{gains_then, gains_front}
 use Rattle.one_jvm.proofs.report.write_refused.Goals as goal
 
 pub returns-in_err-write_file-clause-bytes : goal.returns-in_err-write_file-clause-bytes

@@ -1,5 +1,5 @@
 use Rattle.std.proofs.Common.{◌++◌, codes, decimal}
-use Rattle.one_jvm.proofs.Gains.{gains_then, gains_front}
+use Rattle.cjvm_io.proofs.Gains.{gains_then, gains_front}
 use Rattle.one_jvm.proofs.report.write_version.Goals as goal
 
 pub returns-in_err-write_number-clause-bytes : goal.returns-in_err-write_number-clause-bytes

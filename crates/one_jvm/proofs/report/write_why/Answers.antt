@@ -1,6 +1,6 @@
 use Rattle.std.proofs.Common.{◌∷◌, []}
 use Rattle.one_jvm.specs.Outcomes.{reason}
-use Rattle.one_jvm.proofs.Gains.{gains_then}
+use Rattle.cjvm_io.proofs.Gains.{gains_then}
 use Rattle.one_jvm.proofs.report.write_why.Goals as goal
 
 pub returns-clause-bytes : goal.returns-clause-bytes

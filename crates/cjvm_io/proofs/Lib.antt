@@ -1,0 +1,4 @@
+pub mod Answered
+pub mod CallLemmas
+pub mod Gains
+pub mod ReadLemmas
