@@ -1,5 +1,5 @@
 -- Whether a call is one of those that fail.
-use Rattle.std.proofs.Common.{◌≡◌, ◌↔◌, ℕ, Bool, true, false, nat_eq, List, Contains, IsTrue, slice_index_or, refl, sym, ◌∙◌, arith}
+use Rattle.std.proofs.Common.{◌≡◌, ◌↔◌, ℕ, Bool, true, false, nat_eq, List, Contains, IsTrue, refl, sym, ◌∙◌, arith}
 use Rattle.std.specs.List.{IsAnyAnswer}
 use Rattle.std.proofs.lemmas.Bool.{eqb-true, eq-eqb}
 

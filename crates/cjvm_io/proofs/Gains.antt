@@ -1,5 +1,5 @@
 -- One append after another.
-use Rattle.std.proofs.Common.{ℕ, ◌+◌, ◌≤◌, length, Result, Ok, Err, subst, arith, List, [], ◌++◌, take, drop, sym, ◌∙◌, ap, append-nil, append_assoc, take-add}
+use Rattle.std.proofs.Common.{ℕ, ◌+◌, length, Result, Ok, Err, subst, arith, List, [], ◌++◌, take, drop, sym, ◌∙◌, ap, append-nil, append_assoc, take-add}
 use Rattle.std.specs.Prelude.{Some, None, Option, IsErr}
 use Rattle.std.proofs.lemmas.List.{length-append, take-append-le}
 use Rattle.std.proofs.Math.Seq.{take-append-add}

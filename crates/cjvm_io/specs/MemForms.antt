@@ -1,5 +1,5 @@
 -- The forms in memory: which calls fail, and how much a call takes.
-use Rattle.std.specs.Prelude.{◌≡◌, ◌⊎◌, ◌↔◌, ℕ, ◌-◌, ◌≤◌, ◌<◌, min, map, string_bytes, List, length, Contains, Option, Some, Result, IsErrOf}
+use Rattle.std.specs.Prelude.{◌≡◌, ◌⊎◌, ℕ, ◌-◌, ◌≤◌, ◌<◌, min, map, string_bytes, List, length, Contains, Some}
 use Rattle.cjvm_io.specs.declared.mem_shelf.MemShelf.{MemShelf}
 use Rattle.cjvm_io.specs.declared.vec_sink.VecSink.{VecSink}
 use Rattle.cjvm_io.specs.Faults.{next_count}

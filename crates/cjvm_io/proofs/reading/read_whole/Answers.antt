@@ -1,4 +1,4 @@
-use Rattle.std.proofs.Common.{rules, arith}
+use Rattle.std.proofs.Common.{rules}
 use Rattle.cjvm_io.proofs.ReadLemmas.{too_long, reads_all}
 use Rattle.cjvm_io.proofs.reading.read_whole.Goals as goal
 
