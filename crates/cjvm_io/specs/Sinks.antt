@@ -2,6 +2,15 @@
 use Rattle.std.specs.Prelude.{ℕ, ◌≤◌, List, length, take, Option, Result, MatchResult}
 use Rattle.std.specs.Io.KnownBytes.{Appends}
 
+-- what a sink shows: its bytes so far, where it tells them, and how many faults struck
+pub record Showing : Type 0 where
+  pub held : Option (List ℕ)
+  pub faults : ℕ
+
+-- what this sink shows, by what its type tells
+abbrev pub shown : {O : Type 0} → (O → Option (List ℕ)) → (O → ℕ) → O → Showing
+shown held faults sink = record { held = held sink; faults = faults sink }
+
 -- a front of the bytes was appended
 pub record GainsFront (old new : Option (List ℕ)) (bytes : List ℕ) : Type 0 where
   pub count : ℕ

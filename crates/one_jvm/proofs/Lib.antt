@@ -1,4 +1,6 @@
+pub mod Judged
 pub mod LoadLemmas
+pub mod OneVerdict
 pub mod RunLoop
 pub mod Statuses
 pub mod WordLemmas

@@ -24,7 +24,8 @@ use Rattle.one_machine.proofs.Reasons.{never_dead, no_uncaught, few_steps}
 use Rattle.cjvm_io.specs.Faults.{Rose}
 use Rattle.one_jvm.specs.Runs.{IsWhole, IsPart}
 use Rattle.one_jvm.specs.declared.running.Run.{Run}
-use Rattle.one_jvm.specs.RunSteps.{IsRunOf, Writes, Breaks}
+use Rattle.one_jvm.specs.Steps.RunSteps.{IsRunOf, Writes, Breaks}
+use Rattle.cjvm_io.specs.Sinks.{GainsFront}
 use Rattle.cjvm_io.proofs.Gains.{appends_none, appends_more}
 
 -- what holds each time the loop begins
@@ -53,28 +54,28 @@ begins code m order held faults e n s = record {
 }
 
 -- a turn
-pub turned : (code : ThinCode) (old new : Run) (before mid now : Option (List ℕ)) (f g h : ℕ) → GoesOn code old before mid f g → (Writes code old new mid now × (g ≤ h)) → GoesOn code new before now f h
-turned code old new before mid now f g h o w = record {
-  run = w.0.run;
-  written = w.0.written;
-  gained = subst (λ (bytes : List ℕ). Appends before now bytes) (sym w.0.output) (appends_more before mid now old.machine.output w.0.printed o.gained w.0.gained);
-  later = omega (arith, o.later, w.1);
+pub turned : (code : ThinCode) (old new : Run) (before mid now : Option (List ℕ)) (f g h : ℕ) → GoesOn code old before mid f g → Writes code old new mid now → g ≤ h → GoesOn code new before now f h
+turned code old new before mid now f g h o w l = record {
+  run = w.run;
+  written = w.written;
+  gained = subst (λ (bytes : List ℕ). Appends before now bytes) (sym w.output) (appends_more before mid now old.machine.output w.printed o.gained w.gained);
+  later = omega (arith, o.later, l);
 }
 
 -- a turn whose write failed
 pub broken : (code : ThinCode) (old new : Run) (before mid now : Option (List ℕ)) (f g h : ℕ) → GoesOn code old before mid f g → (Breaks code old new mid now × Rose g h) → IsPart code new.order before now × Rose f h
 broken code old new before mid now f g h o b =
     let out : List ℕ = old.machine.output in
-    let front : take (length old.machine.output + b.0.count) new.machine.output ≡ old.machine.output ++ take b.0.count b.0.printed = ap (take (length old.machine.output + b.0.count)) b.0.output ∙ take-append-add old.machine.output b.0.printed b.0.count in (
-      record {
-        last = new.machine;
-        leads = b.0.run.leads;
-        count = length old.machine.output + b.0.count;
-        within = omega (arith, b.0.within, ap length b.0.output, length-append old.machine.output b.0.printed);
-        written = subst (λ (bytes : List ℕ). Appends before now bytes) (sym front) (appends_more before mid now old.machine.output (take b.0.count b.0.printed) o.gained b.0.gained);
-      },
-      omega (arith, b.1, o.later),
-    )
+    let n : ℕ = b.0.gained.count in
+    let front : take (length out + n) new.machine.output ≡ out ++ take n b.0.printed =
+    ap (take (length out + n)) b.0.output ∙ take-append-add out b.0.printed n in
+    let all = appends_more before mid now out (take n b.0.printed) o.gained b.0.gained.gained in
+    let written : GainsFront before now new.machine.output = record {
+      count = length out + n;
+      within = omega (arith, b.0.gained.within, ap length b.0.output, length-append out b.0.printed);
+      gained = subst (λ (bytes : List ℕ). Appends before now bytes) (sym front) all;
+    } in
+    (record { last = new.machine; leads = b.0.run.leads; written = written }, omega (arith, b.1, o.later))
 
 -- the loop ends
 pub whole : (code : ThinCode) (run : Run) (before now : Option (List ℕ)) (f h : ℕ) → IsThinCode code → GoesOn code run before now f h → (end_of code run.machine ≡ Going → ⊥) → IsWhole code run.order before now

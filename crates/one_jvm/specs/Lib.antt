@@ -1,6 +1,6 @@
 pub mod Answers
-pub mod Loading
 pub mod Outcomes
-pub mod RunSteps
 pub mod Runs
+pub mod Steps
+pub mod Verdicts
 pub mod Words

@@ -9,4 +9,4 @@ mod top;
 mod words;
 
 pub use outcome::{Outcome, Refusal, Stop};
-pub use top::cjvm;
+pub use top::{cjvm, without_words};

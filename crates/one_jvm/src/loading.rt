@@ -1,9 +1,9 @@
 //! The file of a call, read and accepted.
 
-ghost use Rattle.std.specs.Prelude.{◌≡◌, MatchOption, MatchResult};
+ghost use Rattle.std.specs.Prelude.{◌≡◌, ◌≤◌, MatchResult};
 ghost use Rattle.thin_file.specs.Thin.{IsThin};
-ghost use Rattle.one_jvm.specs.Answers.{IsClassFile};
-ghost use Rattle.one_jvm.specs.Loading.{Loaded, RefusesFile};
+ghost use Rattle.one_jvm.specs.Verdicts.{IsClassFile};
+ghost use Rattle.one_jvm.specs.Steps.Loading.{Loaded, RefusesFile};
 
 use crate::outcome::Refusal;
 use cjvm_io::{Shelf, ShelfErr};
@@ -14,14 +14,14 @@ use thin_file::{ThinCode, ThinErr, read_thin};
 /// The greatest length of a class file, in bytes.
 const CLASS_FILE_LIMIT: u64 = 1_048_576;
 
-/// Answers nothing where the bytes are a class file, and why they are none otherwise.
-fn is_refused(alloc: Global, bytes: &[u8]) -> Option<Refusal>
-    ensures { MatchOption result (IsClassFile bytes.now) (RefusesFile bytes.now) }
+/// Whether the bytes are a class file, and why they are none otherwise.
+fn judge_class(alloc: Global, bytes: &[u8]) -> Result<(), Refusal>
+    ensures { MatchResult result (λ _. IsClassFile bytes.now) (RefusesFile bytes.now) }
 {
     match read_class(alloc, bytes) {
-        Ok(_) => None,
-        Err(ClassErr::NoMemory) => Some(Refusal::NoMemory),
-        Err(why) => Some(Refusal::File { file: 0, why }),
+        Ok(_) => Ok(()),
+        Err(ClassErr::NoMemory) => Err(Refusal::NoMemory),
+        Err(why) => Err(Refusal::File { file: 0, why }),
     }
 }
 
@@ -41,15 +41,14 @@ fn program_of(alloc: Global, bytes: &[u8]) -> Result<ThinCode, Refusal>
 fn accept(alloc: Global, bytes: &[u8]) -> Result<ThinCode, Refusal>
     ensures { MatchResult result (IsThin bytes.now) (RefusesFile bytes.now) }
 {
-    match is_refused(alloc, bytes) {
-        Some(refusal) => Err(refusal),
-        None => program_of(alloc, bytes),
-    }
+    judge_class(alloc, bytes)?;
+    program_of(alloc, bytes)
 }
 
 /// The program of a file, or why it isn't run. The file is the first of the call's.
 pub(crate) fn load<S: Shelf>(alloc: Global, shelf: &mut S, name: &str) -> Result<ThinCode, Refusal>
     ensures files { S.files shelf.new ≡ S.files shelf.old }
+    ensures later { S.faults shelf.old ≤ S.faults shelf.new }
     ensures answer { Loaded (S.files shelf.old) name.now (S.faults shelf.old) (S.faults shelf.new) result }
 {
     match shelf.read_file(alloc, name, CLASS_FILE_LIMIT) {

@@ -5,6 +5,7 @@ ghost use Rattle.one_jvm.specs.Outcomes.{status_of};
 
 use class_file::ClassErr;
 use one_machine::Order;
+use thiserror::Error;
 
 /// How a run ended: every thread has ended and none left an exception uncaught; a write of the
 /// program's output failed; no memory was left.
@@ -17,23 +18,31 @@ pub enum Stop {
 
 /// Why a call didn't end with status 0. A file is named by its place, from 0, among the words that
 /// name files.
-#[derive(Clone, Copy, Debug, PartialEq, Eq)]
+#[derive(Clone, Copy, Debug, PartialEq, Eq, Error)]
 pub enum Refusal {
-    /// The words are none of a command's. Status 2.
+    /// The words are not those of a command. Status 2.
+    #[error("usage")]
     Usage,
     /// A file is no class file, and why. Status 3.
+    #[error("refused")]
     File { file: u32, why: ClassErr },
     /// There is no such file. Status 4.
+    #[error("no file")]
     NoFile(u32),
     /// A file could not be read. Status 5.
+    #[error("read fault")]
     ReadFault(u32),
     /// A write failed. Status 6.
+    #[error("write fault")]
     WriteFault,
     /// A file is longer than a class file may be. Status 11.
+    #[error("file too long")]
     TooLong(u32),
     /// The file is a class file that isn't run yet. Status 14.
+    #[error("not yet")]
     NotYet,
     /// No memory was left. Status 20.
+    #[error("want of memory")]
     NoMemory,
 }
 

@@ -1,9 +1,10 @@
 //! A run of a thin program on the one machine.
 
-ghost use Rattle.std.specs.Prelude.{◌≡◌, ◌↔◌, IsTrue, length, OnOk};
+ghost use Rattle.std.specs.Prelude.{◌≡◌, ◌↔◌, ◌≤◌, IsTrue, length, OnOk};
 ghost use Rattle.thin_file.specs.Thin.{IsThinCode};
 ghost use Rattle.one_machine.specs.declared.state.End.TheVariants.{Going};
 ghost use Rattle.one_machine.specs.Runs.{end_of};
+ghost use Rattle.cjvm_io.specs.Sinks.{shown};
 ghost use Rattle.one_jvm.specs.Runs.{RanTo};
 
 use crate::outcome::Stop;
@@ -12,6 +13,7 @@ use jvm_base::NoMemory;
 use one_machine::{Choice, End, Machine, NO_NAME, Order, StepErr};
 use std::alloc::Global;
 use thin_file::ThinCode;
+use thiserror::Error;
 
 /// How many steps are taken before what they printed is written.
 const BURST: u32 = 4096;
@@ -24,9 +26,11 @@ const CHOICE: Choice = Choice {
 };
 
 /// Why a run goes no further.
-#[derive(Clone, Copy, Debug, PartialEq, Eq)]
+#[derive(Clone, Copy, Debug, PartialEq, Eq, Error)]
 enum Broken {
+    #[error("write fault")]
     WriteFault,
+    #[error("want of memory")]
     NoMemory,
 }
 
@@ -39,7 +43,7 @@ struct Run {
 }
 
 impl Run {
-    ghost use Rattle.one_jvm.specs.RunSteps.{IsRunOf, IsLater, Turned};
+    ghost use Rattle.one_jvm.specs.Steps.RunSteps.{IsRunOf, IsLater, Turned};
 
     /// Whether the run is not at its end.
     fn is_going(&self, code: &ThinCode) -> bool
@@ -89,7 +93,9 @@ impl Run {
         requires run { IsRunOf code.now self.old }
         requires going { end_of code.now self.old.machine ≡ Going }
         requires written { self.old.written ≡ length self.old.machine.output }
-        ensures { Turned code.now self.old self.new (O.held out.old) (O.held out.new) (O.faults out.old) (O.faults out.new) result }
+        ensures turned { Turned code.now self.old self.new (shown O.held O.faults out.old)
+            (shown O.held O.faults out.new) result }
+        ensures later { O.faults out.old ≤ O.faults out.new }
     {
         if self.burst(code).is_err() {
             return Err(Broken::NoMemory);
@@ -107,7 +113,9 @@ impl Run {
 /// memory ran out.
 pub(crate) fn run_program<O: Sink>(alloc: Global, code: &ThinCode, out: &mut O) -> (Order, Stop)
     requires { IsThinCode code.now }
-    ensures { RanTo code.now result.0 (O.held out.old) (O.held out.new) (O.faults out.old) (O.faults out.new) result.1 }
+    ensures ran { RanTo code.now result.0 (shown O.held O.faults out.old)
+        (shown O.held O.faults out.new) result.1 }
+    ensures later { O.faults out.old ≤ O.faults out.new }
 {
     let Ok(machine) = Machine::new(alloc, code) else {
         return (Order::new(alloc), Stop::NoMemory);

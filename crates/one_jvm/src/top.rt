@@ -1,10 +1,12 @@
 //! The top call.
 
-ghost use Rattle.std.specs.Prelude.{◌≡◌, ◌↔◌, ◌⊎◌, [], ◌∷◌, Some, None, map, string_bytes};
-ghost use Rattle.one_jvm.specs.Outcomes.{status_of};
-ghost use Rattle.one_jvm.specs.Answers.{Because, Ran, Agrees, the_faults, refusal_of, IfTold, Exactly, LacksFile, HasLongFile, HasOtherFile, HasRefusedFile, HasThinFile, IsClosed, Reports};
+ghost use Rattle.std.specs.Prelude.{◌≡◌, ◌≤◌, ◌↔◌, ◌⊎◌, [], ◌∷◌, Some, None};
 ghost use Rattle.cjvm_io.specs.Faults.{Rose};
-ghost use Rattle.one_jvm.specs.Words.{IsNoRun};
+ghost use Rattle.cjvm_io.specs.Sinks.{shown};
+ghost use Rattle.one_jvm.specs.Words.{IsNoRun, name_of, texts};
+ghost use Rattle.one_jvm.specs.Verdicts.{LacksFile, HasLongFile, HasOtherFile, HasRefusedFile, HasThinFile};
+ghost use Rattle.one_jvm.specs.Outcomes.{status_of};
+ghost use Rattle.one_jvm.specs.Answers.{Because, Ran, Agrees, the_faults, refusal_of, Exactly, Answers, IsClosed, Reports};
 
 use crate::loading::load;
 use crate::outcome::{Outcome, Refusal, Stop, status_of};
@@ -47,9 +49,17 @@ fn refused(alloc: Global, refusal: Refusal) -> Verdict
 
 /// Reads the words and the file, and runs the program.
 fn judge<S: Shelf, O: Sink>(alloc: Global, words: &[String], shelf: &mut S, out: &mut O) -> Verdict
-    ensures cause { Because (map string_bytes words.now) (S.files shelf.old) (the_faults (S.faults shelf.old) (S.faults shelf.new) (O.faults out.old) (O.faults out.new)) result.refusal }
-    ensures run { Ran (map string_bytes words.now) (S.files shelf.old) (O.held out.old) (O.held out.new) (O.faults out.old) (O.faults out.new) result.order result.stop }
+    ensures cause { Because (texts words.now) (S.files shelf.old)
+        (the_faults (S.faults shelf.old) (S.faults shelf.new) (O.faults out.old) (O.faults out.new))
+        result.refusal }
+    ensures run { Ran (texts words.now) (S.files shelf.old) (shown O.held O.faults out.old)
+        (shown O.held O.faults out.new) result.order result.stop }
     ensures agrees { Agrees result.stop result.refusal }
+    ensures files { S.files shelf.new ≡ S.files shelf.old }
+    ensures read_faults { S.faults shelf.old ≤ S.faults shelf.new }
+    ensures out_faults { O.faults out.old ≤ O.faults out.new }
+    ensures no_read { IsNoRun (texts words.now) → shelf.new ≡ shelf.old }
+    ensures no_run { result.stop ≡ None → out.new ≡ out.old }
 {
     let Some(name) = run_file(words) else {
         return refused(alloc, Refusal::Usage);
@@ -69,8 +79,11 @@ fn judge<S: Shelf, O: Sink>(alloc: Global, words: &[String], shelf: &mut S, out:
 
 /// Reports a refusal. A fault of standard error hides it.
 fn close<E: Sink>(err: &mut E, name: &str, refusal: Option<Refusal>) -> Option<Refusal>
-    ensures closed { IsClosed name.now refusal (E.held err.old) (E.held err.new) (E.faults err.old) (E.faults err.new) result }
+    ensures closed { IsClosed name.now refusal (shown E.held E.faults err.old)
+        (shown E.held E.faults err.new) result }
     ensures silent { refusal ≡ None → result ≡ None }
+    ensures err_faults { E.faults err.old ≤ E.faults err.new }
+    ensures no_report { refusal ≡ None → err.new ≡ err.old }
 {
     let refusal = refusal?;
     match write_refusal(err, name, refusal) {
@@ -93,21 +106,34 @@ pub fn cjvm<S: Shelf, O: Sink, E: Sink>(
     ensures status { result.status ≡ status_of result.refusal }
 
     // Each status comes exactly with its cause, faults and want of memory aside.
-    ensures usage { Exactly result.status 2 (6 ∷ []) (IsNoRun (map string_bytes words.now)) }
-    ensures refused { IfTold (S.files shelf.old) (λ fs. Exactly result.status 3 (5 ∷ 6 ∷ 20 ∷ []) (HasRefusedFile fs (map string_bytes words.now))) }
-    ensures no_file { IfTold (S.files shelf.old) (λ fs. Exactly result.status 4 (5 ∷ 6 ∷ 20 ∷ []) (LacksFile fs (map string_bytes words.now))) }
-    ensures too_long { IfTold (S.files shelf.old) (λ fs. Exactly result.status 11 (5 ∷ 6 ∷ 20 ∷ []) (HasLongFile fs (map string_bytes words.now))) }
-    ensures not_yet { IfTold (S.files shelf.old) (λ fs. Exactly result.status 14 (5 ∷ 6 ∷ 20 ∷ []) (HasOtherFile fs (map string_bytes words.now))) }
-    ensures ended { IfTold (S.files shelf.old) (λ fs. Exactly result.status 0 (5 ∷ 6 ∷ 20 ∷ []) (HasThinFile fs (map string_bytes words.now))) }
+    ensures usage { Exactly result.status 2 (6 ∷ []) (IsNoRun (texts words.now)) }
+    ensures refused { Answers (S.files shelf.old) (texts words.now) result.status 3 HasRefusedFile }
+    ensures no_file { Answers (S.files shelf.old) (texts words.now) result.status 4 LacksFile }
+    ensures too_long { Answers (S.files shelf.old) (texts words.now) result.status 11 HasLongFile }
+    ensures not_yet { Answers (S.files shelf.old) (texts words.now) result.status 14 HasOtherFile }
+    ensures ended { Answers (S.files shelf.old) (texts words.now) result.status 0 HasThinFile }
     ensures read_fault { result.status ≡ 5 → Rose (S.faults shelf.old) (S.faults shelf.new) }
-    ensures write_fault { result.status ≡ 6 → (Rose (O.faults out.old) (O.faults out.new)) ⊎ (Rose (E.faults err.old) (E.faults err.new)) }
+    ensures write_fault { result.status ≡ 6 → Rose (O.faults out.old) (O.faults out.new)
+        ⊎ Rose (E.faults err.old) (E.faults err.new) }
 
     // The order is a legal one of the file's program and whole, and `out` gained its output.
     ensures done { (result.status ≡ 0) ↔ (result.stop ≡ Some Stop.Done) }
-    ensures run { Ran (map string_bytes words.now) (S.files shelf.old) (O.held out.old) (O.held out.new) (O.faults out.old) (O.faults out.new) result.order result.stop }
+    ensures run { Ran (texts words.now) (S.files shelf.old) (shown O.held O.faults out.old)
+        (shown O.held O.faults out.new) result.order result.stop }
 
     // `err` gained the report of what was refused, or a front of it where a write to it failed.
-    ensures report { Reports (map string_bytes words.now) (S.files shelf.old) (the_faults (S.faults shelf.old) (S.faults shelf.new) (O.faults out.old) (O.faults out.new)) (E.held err.old) (E.held err.new) (E.faults err.old) (E.faults err.new) result.stop result.refusal }
+    ensures report { Reports (texts words.now) (S.files shelf.old)
+        (the_faults (S.faults shelf.old) (S.faults shelf.new) (O.faults out.old) (O.faults out.new))
+        (shown E.held E.faults err.old) (shown E.held E.faults err.new) result.stop result.refusal }
+
+    // The shelf holds what it held, no count falls, and what isn't used is left as it was.
+    ensures files { S.files shelf.new ≡ S.files shelf.old }
+    ensures read_faults { S.faults shelf.old ≤ S.faults shelf.new }
+    ensures out_faults { O.faults out.old ≤ O.faults out.new }
+    ensures err_faults { E.faults err.old ≤ E.faults err.new }
+    ensures no_read { IsNoRun (texts words.now) → shelf.new ≡ shelf.old }
+    ensures no_run { result.stop ≡ None → out.new ≡ out.old }
+    ensures no_report { result.status ≡ 0 → err.new ≡ err.old }
 {
     let verdict = judge(alloc, words, shelf, out);
     let refusal = close(err, name_of(words), verdict.refusal);
@@ -115,6 +141,23 @@ pub fn cjvm<S: Shelf, O: Sink, E: Sink>(
         status: status_of(refusal),
         order: verdict.order,
         stop: verdict.stop,
+        refusal,
+    }
+}
+
+/// The answer where no memory was left for the words: nothing is read, and want of memory is reported.
+pub fn without_words<E: Sink>(alloc: Global, err: &mut E) -> Outcome
+    ensures status { result.status ≡ status_of result.refusal }
+    ensures report { IsClosed [] (Some Refusal.NoMemory) (shown E.held E.faults err.old)
+        (shown E.held E.faults err.new) result.refusal }
+    ensures no_run { (result.stop ≡ None) × (result.order ≡ []) }
+    ensures err_faults { E.faults err.old ≤ E.faults err.new }
+{
+    let refusal = close(err, "", Some(Refusal::NoMemory));
+    Outcome {
+        status: status_of(refusal),
+        order: Order::new(alloc),
+        stop: None,
         refusal,
     }
 }

@@ -1,7 +1,7 @@
 //! The words of a call.
 
-ghost use Rattle.std.specs.Prelude.{◌≡◌, map, string_bytes, MatchOption};
-ghost use Rattle.one_jvm.specs.Words.{is_option, IsRun, IsNoRun, name_of};
+ghost use Rattle.std.specs.Prelude.{◌≡◌, MatchOption};
+ghost use Rattle.one_jvm.specs.Words.{is_option, IsRun, IsNoRun, name_of, texts};
 
 /// Whether a word is an option's and no file's.
 fn is_option(word: &str) -> bool
@@ -12,7 +12,7 @@ fn is_option(word: &str) -> bool
 
 /// The file of `run FILE`.
 pub(crate) fn run_file(words: &[String]) -> Option<&str>
-    ensures { MatchOption result (IsNoRun (map string_bytes words.now)) (λ name. IsRun (map string_bytes words.now) name.now) }
+    ensures { MatchOption result (IsNoRun (texts words.now)) (λ name. IsRun (texts words.now) name.now) }
 {
     match words {
         [command, file] if command.as_str() == "run" && !is_option(file.as_str()) => {
@@ -24,7 +24,7 @@ pub(crate) fn run_file(words: &[String]) -> Option<&str>
 
 /// The word that a report names as a file.
 pub(crate) fn name_of(words: &[String]) -> &str
-    ensures { result.now ≡ name_of (map string_bytes words.now) }
+    ensures { result.now ≡ name_of (texts words.now) }
 {
     match words {
         [_, name, ..] => name.as_str(),

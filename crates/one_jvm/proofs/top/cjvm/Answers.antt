@@ -1,22 +1,34 @@
-use Rattle.std.specs.Prelude.{map, string_bytes}
+use Rattle.one_jvm.specs.Words.{texts}
 use Rattle.one_jvm.specs.Answers.{the_faults}
-use Rattle.one_jvm.proofs.Statuses.{refused, no_file, too_long, not_yet, ended, hides, done}
+use Rattle.one_jvm.proofs.Statuses.{usage, refused, no_file, too_long, not_yet, ended, read_fault, any_write_fault, hides, silent_at_zero, done}
 use Rattle.one_jvm.proofs.top.cjvm.Goals as goal
 
+pub returns-clause-usage : goal.returns-clause-usage
+returns-clause-usage g c = usage (texts c.args.words.now) (g.S.Shelf.files c.args.shelf.now) (the_faults (g.S.Shelf.faults c.args.shelf.now) (g.S.Shelf.faults c.judge-verdict.new.shelf) (g.O.Sink.faults c.args.out.now) (g.O.Sink.faults c.judge-verdict.new.out)) c.judge-verdict.result.refusal c.close-refusal.result c.status_of.result c.status_of.ensures c.judge-verdict.ensures.cause (hides _ c.judge-verdict.result.refusal _ _ c.close-refusal.result c.close-refusal.ensures.closed)
+
 pub returns-clause-refused : goal.returns-clause-refused
-returns-clause-refused g c = refused (map string_bytes c.args.words.now) (g.S.Shelf.files c.args.shelf.now) (the_faults (g.S.Shelf.faults c.args.shelf.now) (g.S.Shelf.faults c.judge-verdict.new.shelf) (g.O.Sink.faults c.args.out.now) (g.O.Sink.faults c.judge-verdict.new.out)) c.judge-verdict.result.refusal c.close-refusal.result c.status_of.result c.status_of.ensures c.judge-verdict.ensures.cause (hides _ c.judge-verdict.result.refusal _ _ _ _ c.close-refusal.result c.close-refusal.ensures.closed)
+returns-clause-refused g c = refused (texts c.args.words.now) (g.S.Shelf.files c.args.shelf.now) (the_faults (g.S.Shelf.faults c.args.shelf.now) (g.S.Shelf.faults c.judge-verdict.new.shelf) (g.O.Sink.faults c.args.out.now) (g.O.Sink.faults c.judge-verdict.new.out)) c.judge-verdict.result.refusal c.close-refusal.result c.status_of.result c.status_of.ensures c.judge-verdict.ensures.cause (hides _ c.judge-verdict.result.refusal _ _ c.close-refusal.result c.close-refusal.ensures.closed)
 
 pub returns-clause-no_file : goal.returns-clause-no_file
-returns-clause-no_file g c = no_file (map string_bytes c.args.words.now) (g.S.Shelf.files c.args.shelf.now) (the_faults (g.S.Shelf.faults c.args.shelf.now) (g.S.Shelf.faults c.judge-verdict.new.shelf) (g.O.Sink.faults c.args.out.now) (g.O.Sink.faults c.judge-verdict.new.out)) c.judge-verdict.result.refusal c.close-refusal.result c.status_of.result c.status_of.ensures c.judge-verdict.ensures.cause (hides _ c.judge-verdict.result.refusal _ _ _ _ c.close-refusal.result c.close-refusal.ensures.closed)
+returns-clause-no_file g c = no_file (texts c.args.words.now) (g.S.Shelf.files c.args.shelf.now) (the_faults (g.S.Shelf.faults c.args.shelf.now) (g.S.Shelf.faults c.judge-verdict.new.shelf) (g.O.Sink.faults c.args.out.now) (g.O.Sink.faults c.judge-verdict.new.out)) c.judge-verdict.result.refusal c.close-refusal.result c.status_of.result c.status_of.ensures c.judge-verdict.ensures.cause (hides _ c.judge-verdict.result.refusal _ _ c.close-refusal.result c.close-refusal.ensures.closed)
 
 pub returns-clause-too_long : goal.returns-clause-too_long
-returns-clause-too_long g c = too_long (map string_bytes c.args.words.now) (g.S.Shelf.files c.args.shelf.now) (the_faults (g.S.Shelf.faults c.args.shelf.now) (g.S.Shelf.faults c.judge-verdict.new.shelf) (g.O.Sink.faults c.args.out.now) (g.O.Sink.faults c.judge-verdict.new.out)) c.judge-verdict.result.refusal c.close-refusal.result c.status_of.result c.status_of.ensures c.judge-verdict.ensures.cause (hides _ c.judge-verdict.result.refusal _ _ _ _ c.close-refusal.result c.close-refusal.ensures.closed)
+returns-clause-too_long g c = too_long (texts c.args.words.now) (g.S.Shelf.files c.args.shelf.now) (the_faults (g.S.Shelf.faults c.args.shelf.now) (g.S.Shelf.faults c.judge-verdict.new.shelf) (g.O.Sink.faults c.args.out.now) (g.O.Sink.faults c.judge-verdict.new.out)) c.judge-verdict.result.refusal c.close-refusal.result c.status_of.result c.status_of.ensures c.judge-verdict.ensures.cause (hides _ c.judge-verdict.result.refusal _ _ c.close-refusal.result c.close-refusal.ensures.closed)
 
 pub returns-clause-not_yet : goal.returns-clause-not_yet
-returns-clause-not_yet g c = not_yet (map string_bytes c.args.words.now) (g.S.Shelf.files c.args.shelf.now) (the_faults (g.S.Shelf.faults c.args.shelf.now) (g.S.Shelf.faults c.judge-verdict.new.shelf) (g.O.Sink.faults c.args.out.now) (g.O.Sink.faults c.judge-verdict.new.out)) c.judge-verdict.result.refusal c.close-refusal.result c.status_of.result c.status_of.ensures c.judge-verdict.ensures.cause (hides _ c.judge-verdict.result.refusal _ _ _ _ c.close-refusal.result c.close-refusal.ensures.closed)
+returns-clause-not_yet g c = not_yet (texts c.args.words.now) (g.S.Shelf.files c.args.shelf.now) (the_faults (g.S.Shelf.faults c.args.shelf.now) (g.S.Shelf.faults c.judge-verdict.new.shelf) (g.O.Sink.faults c.args.out.now) (g.O.Sink.faults c.judge-verdict.new.out)) c.judge-verdict.result.refusal c.close-refusal.result c.status_of.result c.status_of.ensures c.judge-verdict.ensures.cause (hides _ c.judge-verdict.result.refusal _ _ c.close-refusal.result c.close-refusal.ensures.closed)
 
 pub returns-clause-ended : goal.returns-clause-ended
-returns-clause-ended g c = ended (map string_bytes c.args.words.now) (g.S.Shelf.files c.args.shelf.now) (the_faults (g.S.Shelf.faults c.args.shelf.now) (g.S.Shelf.faults c.judge-verdict.new.shelf) (g.O.Sink.faults c.args.out.now) (g.O.Sink.faults c.judge-verdict.new.out)) c.judge-verdict.result.refusal c.close-refusal.result c.status_of.result c.status_of.ensures c.judge-verdict.ensures.cause (hides _ c.judge-verdict.result.refusal _ _ _ _ c.close-refusal.result c.close-refusal.ensures.closed)
+returns-clause-ended g c = ended (texts c.args.words.now) (g.S.Shelf.files c.args.shelf.now) (the_faults (g.S.Shelf.faults c.args.shelf.now) (g.S.Shelf.faults c.judge-verdict.new.shelf) (g.O.Sink.faults c.args.out.now) (g.O.Sink.faults c.judge-verdict.new.out)) c.judge-verdict.result.refusal c.close-refusal.result c.status_of.result c.status_of.ensures c.judge-verdict.ensures.cause (hides _ c.judge-verdict.result.refusal _ _ c.close-refusal.result c.close-refusal.ensures.closed)
+
+pub returns-clause-read_fault : goal.returns-clause-read_fault
+returns-clause-read_fault g c = read_fault (texts c.args.words.now) (g.S.Shelf.files c.args.shelf.now) (the_faults (g.S.Shelf.faults c.args.shelf.now) (g.S.Shelf.faults c.judge-verdict.new.shelf) (g.O.Sink.faults c.args.out.now) (g.O.Sink.faults c.judge-verdict.new.out)) c.judge-verdict.result.refusal c.close-refusal.result c.status_of.result c.status_of.ensures c.judge-verdict.ensures.cause (hides _ c.judge-verdict.result.refusal _ _ c.close-refusal.result c.close-refusal.ensures.closed)
+
+pub returns-clause-write_fault : goal.returns-clause-write_fault
+returns-clause-write_fault g c = any_write_fault (texts c.args.words.now) (g.S.Shelf.files c.args.shelf.now) (the_faults (g.S.Shelf.faults c.args.shelf.now) (g.S.Shelf.faults c.judge-verdict.new.shelf) (g.O.Sink.faults c.args.out.now) (g.O.Sink.faults c.judge-verdict.new.out)) _ c.judge-verdict.result.refusal c.close-refusal.result _ _ c.status_of.result c.status_of.ensures c.judge-verdict.ensures.cause c.close-refusal.ensures.closed
 
 pub returns-clause-done : goal.returns-clause-done
-returns-clause-done g c = done c.judge-verdict.result.stop c.judge-verdict.result.refusal c.close-refusal.result c.status_of.result c.status_of.ensures (hides _ c.judge-verdict.result.refusal _ _ _ _ c.close-refusal.result c.close-refusal.ensures.closed) c.judge-verdict.ensures.agrees c.close-refusal.ensures.silent
+returns-clause-done g c = done c.judge-verdict.result.stop c.judge-verdict.result.refusal c.close-refusal.result c.status_of.result c.status_of.ensures (hides _ c.judge-verdict.result.refusal _ _ c.close-refusal.result c.close-refusal.ensures.closed) c.judge-verdict.ensures.agrees c.close-refusal.ensures.silent
+
+pub returns-clause-no_report : goal.returns-clause-no_report
+returns-clause-no_report g c e = c.close-refusal.ensures.no_report (silent_at_zero c.judge-verdict.result.refusal c.close-refusal.result c.status_of.result c.status_of.ensures (hides _ c.judge-verdict.result.refusal _ _ c.close-refusal.result c.close-refusal.ensures.closed) e)

@@ -1,4 +1,4 @@
-use Rattle.one_jvm.specs.RunSteps.{IsRunOf, IsLater}
+use Rattle.one_jvm.specs.Steps.RunSteps.{IsRunOf, IsLater}
 use Rattle.one_jvm.proofs.running.Run.burst.Given as goal
 
 abbrev pub invariant-loop : goal.invariant-loop

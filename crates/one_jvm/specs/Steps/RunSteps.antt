@@ -1,5 +1,5 @@
 -- A run of a thin program that is going on.
-use Rattle.std.specs.Prelude.{◌≡◌, ℕ, ◌≤◌, ◌<◌, ◌++◌, List, length, take, Option, Result, Ok, Err}
+use Rattle.std.specs.Prelude.{◌≡◌, ℕ, ◌<◌, ◌++◌, List, length, Option, Result, Ok, Err}
 use Rattle.std.specs.Io.KnownBytes.{Appends}
 use Rattle.thin_file.specs.declared.thin.ThinCode.{ThinCode}
 use Rattle.one_machine.specs.Acts.{steps_of}
@@ -9,6 +9,7 @@ use Rattle.one_jvm.specs.declared.running.Broken.{Broken}
 use Rattle.one_jvm.specs.declared.running.Broken.TheVariants.{WriteFault, NoMemory}
 use Rattle.one_jvm.specs.declared.running.Run.{Run}
 use Rattle.cjvm_io.specs.Faults.{Rose}
+use Rattle.cjvm_io.specs.Sinks.{Showing, GainsFront}
 
 -- the order led to the machine
 pub record IsRunOf (code : ThinCode) (run : Run) : Type 0 where
@@ -36,12 +37,11 @@ pub record Breaks (code : ThinCode) (old new : Run) (before now : Option (List �
   pub run : IsRunOf code new
   pub printed : List ℕ
   pub output : new.machine.output ≡ old.machine.output ++ printed
-  pub count : ℕ
-  pub within : count ≤ length printed
-  pub gained : Appends before now (take count printed)
+  pub gained : GainsFront before now printed
 
--- what a step of the loop leaves
-abbrev pub Turned : ThinCode → Run → Run → Option (List ℕ) → Option (List ℕ) → ℕ → ℕ → Result (Unit {0}) Broken → Type 0
-Turned code old new before now faults_before faults (Ok u) = Writes code old new before now × (faults_before ≤ faults)
-Turned code old new before now faults_before faults (Err WriteFault) = Breaks code old new before now × Rose faults_before faults
-Turned code old new before now faults_before faults (Err NoMemory) = Unit {0}
+-- what a turn of the loop leaves
+abbrev pub Turned : ThinCode → Run → Run → Showing → Showing → Result (Unit {0}) Broken → Type 0
+Turned code old new before now (Ok u) = Writes code old new before.held now.held
+Turned code old new before now (Err WriteFault) =
+    Breaks code old new before.held now.held × Rose before.faults now.faults
+Turned code old new before now (Err NoMemory) = Unit {0}

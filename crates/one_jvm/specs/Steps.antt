@@ -1,0 +1,3 @@
+-- What stands between the steps of a call: these words serve proofs alone.
+pub mod Loading
+pub mod RunSteps
