@@ -3,13 +3,13 @@ use Rattle.std.specs.Prelude.{◌≡◌, ◌⊎◌, ℕ, ◌-◌, ◌≤◌, ◌
 use Rattle.cjvm_io.specs.declared.mem_shelf.MemShelf.{MemShelf}
 use Rattle.cjvm_io.specs.declared.vec_sink.VecSink.{VecSink}
 use Rattle.cjvm_io.specs.Faults.{next_count}
-use Rattle.cjvm_io.specs.Shelves.{Files, bytes_under}
+use Rattle.cjvm_io.specs.Shelves.{Files, bytes_under, named_bytes}
 
 -- ---- a shelf
 
 -- its names with their bytes
 abbrev pub files_of : MemShelf → Files
-files_of shelf = map (λ f. (string_bytes f.0, f.1.items)) shelf.files.items
+files_of shelf = named_bytes shelf.files.items
 
 -- the next call is one of those that fail
 abbrev pub IsShelfFault : MemShelf → Type 0

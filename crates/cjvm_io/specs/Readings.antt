@@ -9,7 +9,8 @@ pub record ReadsAll (left : Option (List ℕ)) (limit : ℕ) (bytes : List ℕ) 
   pub all : IfSome left (λ xs. bytes ≡ xs)
 
 -- what reading answers, where T holds bytes; it is too long only where more bytes were left
-abbrev pub ReadsWhole : {T : Type 0} → (T → List ℕ) → Option (List ℕ) → ℕ → Result T ShelfErr → Type 0
+abbrev pub ReadsWhole : {T : Type 0} → (T → List ℕ) → Option (List ℕ) → ℕ → Result T ShelfErr
+    → Type 0
 ReadsWhole bytes_of left limit (Ok v) = ReadsAll left limit (bytes_of v)
 ReadsWhole bytes_of left limit (Err TooLong) = IfSome left (λ xs. limit < length xs)
 ReadsWhole bytes_of left limit (Err NotThere) = ⊥

@@ -18,6 +18,7 @@ pub record GainsFront (old new : Option (List ℕ)) (bytes : List ℕ) : Type 0 
   pub gained : Appends old new (take count bytes)
 
 -- all of the bytes were appended at Ok, and a front of them otherwise
-abbrev pub GainsAll : {E : Type 0} → Option (List ℕ) → Option (List ℕ) → List ℕ → Result Unit E → Type 0
+abbrev pub GainsAll : {E : Type 0} → Option (List ℕ) → Option (List ℕ) → List ℕ → Result Unit E
+    → Type 0
 GainsAll old new bytes result =
     MatchResult result (λ _. Appends old new bytes) (λ _. GainsFront old new bytes)

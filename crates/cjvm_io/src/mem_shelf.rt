@@ -1,9 +1,9 @@
 //! A shelf in memory, for tests.
 
-ghost use Rattle.std.specs.Prelude.{◌≡◌, ◌↔◌, map, string_bytes, Some, None, MatchOption, IsErrOf};
+ghost use Rattle.std.specs.Prelude.{◌≡◌, ◌↔◌, Some, None, MatchOption, IsErrOf};
 ghost use Rattle.cjvm_io.specs.declared.shelf.ShelfErr.TheVariants as shelf_err;
 ghost use Rattle.cjvm_io.specs.Faults.{next_count};
-ghost use Rattle.cjvm_io.specs.Shelves.{bytes_under, ShelfAnswers, HasFaultCause};
+ghost use Rattle.cjvm_io.specs.Shelves.{bytes_under, ShelfAnswers, HasFaultCause, named_bytes};
 
 use crate::shelf::{Shelf, ShelfErr};
 use std::alloc::Global;
@@ -34,7 +34,8 @@ impl MemShelf {
 
 /// The bytes under a name.
 fn look<'a>(files: &'a [(String, Vec<u8>)], name: &str) -> Option<&'a Vec<u8>>
-    ensures { MatchOption result (bytes_under (map (λ f. (string_bytes f.0, f.1.items)) files.now) name.now ≡ None) (λ v. bytes_under (map (λ f. (string_bytes f.0, f.1.items)) files.now) name.now ≡ Some v.now.items) }
+    ensures { MatchOption result (bytes_under (named_bytes files.now) name.now ≡ None)
+        (λ v. bytes_under (named_bytes files.now) name.now ≡ Some v.now.items) }
 {
     let mut rest = files;
     while let Some((file, tail)) = rest.split_first() {
@@ -54,7 +55,8 @@ impl Shelf for MemShelf {
     ghost faults = { λ s. s.faults };
 
     fn read_file(&mut self, alloc: Global, name: &str, limit: u64) -> Result<Vec<u8>, ShelfErr>
-        ensures answer { ShelfAnswers (λ v. v.items) (Some (files_of self.old)) name.now limit result }
+        ensures answer { ShelfAnswers (λ v. v.items) (Some (files_of self.old)) name.now
+            limit result }
         ensures files { Some (files_of self.new) ≡ Some (files_of self.old) }
         ensures cause { HasFaultCause self.old.faults self.new.faults result }
 

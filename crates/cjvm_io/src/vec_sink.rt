@@ -87,10 +87,11 @@ impl Sink for VecSink {
 
     fn write(&mut self, piece: &[u8]) -> Result<usize, Failed>
         ensures bound { IfOk result (λ n. (n ≤ length piece.now) × (0 < length piece.now → 0 < n)) }
-        ensures bytes { WriteAppends (Some self.old.bytes.items) (Some self.new.bytes.items) result piece.now }
+        ensures bytes { WriteAppends (Some self.old.bytes.items) (Some self.new.bytes.items)
+            result piece.now }
         ensures cause { HasCause self.old.faults self.new.faults result }
 
-        // It fails at the calls that were given, and where there is no room; otherwise it takes all it may.
+        // It fails at the calls that were given, and where there is no room; else it takes all it may.
         ensures failed { IsErr result ↔ IsSinkFault self.old piece.now }
         ensures count { IfOk result (λ n. n ≡ taken self.old piece.now) }
         ensures made { (self.new.room ≡ self.old.room) × (self.new.piece ≡ self.old.piece) }

@@ -3,7 +3,7 @@ use Rattle.std.proofs.Common.{◌≡◌, ℕ, ◌≤◌, ◌<◌, ◌+◌, List,
 use Rattle.std.specs.Prelude.{MatchResult, cond}
 use Rattle.std.proofs.lemmas.Slice.Eq.{bytes_eq-Decides}
 use Rattle.std.proofs.lemmas.List.{length-replicate}
-use Rattle.cjvm_io.specs.Shelves.{Files, bytes_under}
+use Rattle.cjvm_io.specs.Shelves.{Files, bytes_under, HasLonger}
 use Rattle.thin_file.specs.declared.thin.ThinCode.{ThinCode}
 use Rattle.thin_file.specs.declared.thin.ThinErr.{ThinErr}
 use Rattle.thin_file.specs.declared.thin.ThinErr.TheVariants as thin
@@ -58,9 +58,9 @@ module _ (name : List ℕ) where
   missing told f g lacks = inl (meant told [] _ (λ fs e. (refl, lacks fs e)) (λ e. (refl, refl)))
 
   -- the shelf's file is too long
-  pub too_long : (told : Option Files) (f g : ℕ) → ((fs : Files) → told ≡ Some fs → (bytes : List ℕ) × (bytes_under fs name ≡ Some bytes) × (limit < length bytes)) → Loaded told name f g (Err (TooLong 0))
+  pub too_long : (told : Option Files) (f g : ℕ) → ((fs : Files) → told ≡ Some fs → HasLonger fs name limit) → Loaded told name f g (Err (TooLong 0))
   too_long told f g long =
       let longer = some_longer limit in
       inl (meant told ((name, longer.0) ∷ []) _
-      (λ fs e. let l = long fs e in (refl, record { bytes = l.0; has = l.1; such = l.2 }))
+      (λ fs e. let l = long fs e in (refl, record { bytes = l.bytes; has = l.has; such = l.long }))
       (λ e. (refl, record { bytes = longer.0; has = alone name longer.0; such = longer.1 })))

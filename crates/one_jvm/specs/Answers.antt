@@ -58,7 +58,8 @@ IsHindrance faults (TooLong k) = ⊥
 IsHindrance faults NotYet = ⊥
 
 -- a hindrance kept the call from its verdict; it comes only where the words ask to run a file
-pub record IsHindered (words : List (List ℕ)) (faults : Faults) (refusal : Option Refusal) : Type 0 where
+pub record IsHindered (words : List (List ℕ)) (faults : Faults) (refusal : Option Refusal)
+    : Type 0 where
   pub is_run : IsSomeRun words
   pub hindrance : Refusal
   pub strikes : IsHindrance faults hindrance
@@ -72,10 +73,12 @@ Because words told faults refusal =
 -- ---- the order, and what standard output gained
 
 -- where no run was begun the order is empty; where one was, it is one of the file's program
-abbrev pub Ran : List (List ℕ) → Option Files → Showing → Showing → List Choice → Option Stop → Type 0
+abbrev pub Ran : List (List ℕ) → Option Files → Showing → Showing → List Choice → Option Stop
+    → Type 0
 Ran words told before now order None = order ≡ []
 Ran words told before now order (Some s) =
-    (code : ThinCode) × OfFiles told (λ fs. HasFile (IsThinFile code) fs words) × RanTo code order before now s
+    (code : ThinCode) × OfFiles told (λ fs. HasFile (IsThinFile code) fs words)
+    × RanTo code order before now s
 
 -- the end of a run is the refusal's, where there is one
 abbrev pub refusal_of : Stop → Option Refusal
@@ -98,8 +101,8 @@ IsClosed name plain before now refusal =
     × GainsFront before.held now.held (report name plain))
 
 -- a refusal with this cause, in accord with the run, was reported
-pub record Reports (words : List (List ℕ)) (told : Option Files) (faults : Faults) (before now : Showing)
-    (stop : Option Stop) (refusal : Option Refusal) : Type 0 where
+pub record Reports (words : List (List ℕ)) (told : Option Files) (faults : Faults)
+    (before now : Showing) (stop : Option Stop) (refusal : Option Refusal) : Type 0 where
   pub plain : Option Refusal
   pub cause : Because words told faults plain
   pub agrees : Agrees stop plain
@@ -122,5 +125,6 @@ pub record Exactly (status k : ℕ) (others : List ℕ) (cause : Type 0) : Type 
   pub always : cause → OneOf (k ∷ others) status
 
 -- the status comes exactly with this cause among the files that are told, faults and want of memory aside
-abbrev pub Answers : Option Files → List (List ℕ) → ℕ → ℕ → (Files → List (List ℕ) → Type 0) → Type 0
+abbrev pub Answers : Option Files → List (List ℕ) → ℕ → ℕ → (Files → List (List ℕ) → Type 0)
+    → Type 0
 Answers told words status k cause = IfTold told (λ fs. Exactly status k hindered (cause fs words))

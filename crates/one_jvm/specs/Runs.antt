@@ -12,7 +12,8 @@ use Rattle.one_jvm.specs.declared.outcome.Stop.{Stop}
 use Rattle.one_jvm.specs.declared.outcome.Stop.TheVariants.{Done, WriteFault, NoMemory}
 
 -- the order is a legal one of the program, it is whole, and the sink gained exactly its output
-pub record IsWhole (code : ThinCode) (order : List Choice) (before now : Option (List ℕ)) : Type 0 where
+pub record IsWhole (code : ThinCode) (order : List Choice) (before now : Option (List ℕ))
+    : Type 0 where
   pub last : State
   pub leads : LeadsTo code order last
   pub ended : end_of code last ≡ AllEnded
@@ -20,7 +21,8 @@ pub record IsWhole (code : ThinCode) (order : List Choice) (before now : Option 
   pub written : Appends before now last.output
 
 -- the order is a legal one, and the sink gained a front of its output
-pub record IsPart (code : ThinCode) (order : List Choice) (before now : Option (List ℕ)) : Type 0 where
+pub record IsPart (code : ThinCode) (order : List Choice) (before now : Option (List ℕ))
+    : Type 0 where
   pub last : State
   pub leads : LeadsTo code order last
   pub written : GainsFront before now last.output
@@ -28,5 +30,6 @@ pub record IsPart (code : ThinCode) (order : List Choice) (before now : Option (
 -- what holds of the order and of the sink, by how the run ended
 abbrev pub RanTo : ThinCode → List Choice → Showing → Showing → Stop → Type 0
 RanTo code order before now Done = IsWhole code order before.held now.held
-RanTo code order before now WriteFault = IsPart code order before.held now.held × Rose before.faults now.faults
+RanTo code order before now WriteFault =
+    IsPart code order before.held now.held × Rose before.faults now.faults
 RanTo code order before now NoMemory = order ≡ []

@@ -1,12 +1,16 @@
 //! The top call: words, files and sinks of the caller, and a status.
 #![tactic(auto)]
 
+mod laws;
 mod loading;
 mod outcome;
+mod process;
 mod report;
 mod running;
 mod top;
 mod words;
 
+pub use laws::verdict_is_one;
 pub use outcome::{Outcome, Refusal, Stop};
+pub use process::run_process;
 pub use top::{cjvm, without_words};

@@ -49,7 +49,8 @@ fn accept(alloc: Global, bytes: &[u8]) -> Result<ThinCode, Refusal>
 pub(crate) fn load<S: Shelf>(alloc: Global, shelf: &mut S, name: &str) -> Result<ThinCode, Refusal>
     ensures files { S.files shelf.new ≡ S.files shelf.old }
     ensures later { S.faults shelf.old ≤ S.faults shelf.new }
-    ensures answer { Loaded (S.files shelf.old) name.now (S.faults shelf.old) (S.faults shelf.new) result }
+    ensures answer { Loaded (S.files shelf.old) name.now (S.faults shelf.old)
+        (S.faults shelf.new) result }
 {
     match shelf.read_file(alloc, name, CLASS_FILE_LIMIT) {
         Ok(bytes) => accept(alloc, bytes.as_slice()),

@@ -21,7 +21,8 @@ fn write_both<E: Sink>(err: &mut E, first: &[u8], second: &[u8]) -> Result<(), F
 
 /// Writes a line of a front and a name.
 fn write_line<E: Sink>(err: &mut E, front: &[u8], name: &[u8]) -> Result<(), Failed>
-    ensures bytes { GainsAll (E.held err.old) (E.held err.new) (front.now ++ name.now ++ 10 ∷ []) result }
+    ensures bytes { GainsAll (E.held err.old) (E.held err.new)
+        (front.now ++ name.now ++ 10 ∷ []) result }
     ensures cause { HasCause (E.faults err.old) (E.faults err.new) result }
 {
     write_both(err, front, name)?;
@@ -30,7 +31,8 @@ fn write_line<E: Sink>(err: &mut E, front: &[u8], name: &[u8]) -> Result<(), Fai
 
 /// Writes a piece and a number.
 fn write_number<E: Sink>(err: &mut E, front: &[u8], number: u64) -> Result<(), Failed>
-    ensures bytes { GainsAll (E.held err.old) (E.held err.new) (front.now ++ decimal number) result }
+    ensures bytes { GainsAll (E.held err.old) (E.held err.new)
+        (front.now ++ decimal number) result }
     ensures cause { HasCause (E.faults err.old) (E.faults err.new) result }
 {
     let mut buffer = Buffer::new();
@@ -38,7 +40,8 @@ fn write_number<E: Sink>(err: &mut E, front: &[u8], number: u64) -> Result<(), F
 }
 
 fn write_version<E: Sink>(err: &mut E, major: u64, minor: u64) -> Result<(), Failed>
-    ensures bytes { GainsAll (E.held err.old) (E.held err.new) (codes "version " ++ decimal major ++ (codes "." ++ decimal minor)) result }
+    ensures bytes { GainsAll (E.held err.old) (E.held err.new)
+        (codes "version " ++ decimal major ++ (codes "." ++ decimal minor)) result }
     ensures cause { HasCause (E.faults err.old) (E.faults err.new) result }
 {
     write_number(err, b"version ", major)?;
@@ -72,7 +75,8 @@ fn write_reason<E: Sink>(err: &mut E, why: ClassErr) -> Result<(), Failed>
 
 /// Writes that a file is refused.
 fn write_file<E: Sink>(err: &mut E, name: &[u8]) -> Result<(), Failed>
-    ensures bytes { GainsAll (E.held err.old) (E.held err.new) (codes "cjvm: refused " ++ name.now ++ codes " ") result }
+    ensures bytes { GainsAll (E.held err.old) (E.held err.new)
+        (codes "cjvm: refused " ++ name.now ++ codes " ") result }
     ensures cause { HasCause (E.faults err.old) (E.faults err.new) result }
 {
     write_both(err, b"cjvm: refused ", name)?;
@@ -90,7 +94,8 @@ fn write_why<E: Sink>(err: &mut E, why: ClassErr) -> Result<(), Failed>
 
 /// Writes the line of a file that is refused.
 fn write_refused<E: Sink>(err: &mut E, name: &[u8], why: ClassErr) -> Result<(), Failed>
-    ensures bytes { GainsAll (E.held err.old) (E.held err.new) (codes "cjvm: refused " ++ name.now ++ codes " " ++ (reason why ++ 10 ∷ [])) result }
+    ensures bytes { GainsAll (E.held err.old) (E.held err.new)
+        (codes "cjvm: refused " ++ name.now ++ codes " " ++ (reason why ++ 10 ∷ [])) result }
     ensures cause { HasCause (E.faults err.old) (E.faults err.new) result }
 {
     write_file(err, name)?;
@@ -103,7 +108,8 @@ pub(crate) fn write_refusal<E: Sink>(
     name: &str,
     refusal: Refusal,
 ) -> Result<(), Failed>
-    ensures bytes { GainsAll (E.held err.old) (E.held err.new) (report name.now (Some refusal)) result }
+    ensures bytes { GainsAll (E.held err.old) (E.held err.new)
+        (report name.now (Some refusal)) result }
     ensures cause { HasCause (E.faults err.old) (E.faults err.new) result }
 {
     let name = name.as_bytes();

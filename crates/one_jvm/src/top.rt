@@ -145,7 +145,7 @@ pub fn cjvm<S: Shelf, O: Sink, E: Sink>(
     }
 }
 
-/// The answer where no memory was left for the words: nothing is read, and want of memory is reported.
+/// The answer where no memory was left for the words: nothing is read, and that is reported.
 pub fn without_words<E: Sink>(alloc: Global, err: &mut E) -> Outcome
     ensures status { result.status ≡ status_of result.refusal }
     ensures report { IsClosed [] (Some Refusal.NoMemory) (shown E.held E.faults err.old)
@@ -161,6 +161,3 @@ pub fn without_words<E: Sink>(alloc: Global, err: &mut E) -> Outcome
         refusal,
     }
 }
-
-#[cfg(test)]
-mod tests;

@@ -12,7 +12,8 @@ fn is_option(word: &str) -> bool
 
 /// The file of `run FILE`.
 pub(crate) fn run_file(words: &[String]) -> Option<&str>
-    ensures { MatchOption result (IsNoRun (texts words.now)) (λ name. IsRun (texts words.now) name.now) }
+    ensures { MatchOption result (IsNoRun (texts words.now))
+        (λ name. IsRun (texts words.now) name.now) }
 {
     match words {
         [command, file] if command.as_str() == "run" && !is_option(file.as_str()) => {

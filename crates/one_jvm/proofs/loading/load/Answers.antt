@@ -5,14 +5,14 @@ use Rattle.one_jvm.proofs.loading.load.Goals as goal
 pub returns-in-Ok-clause-answer : goal.returns-in-Ok-clause-answer
 returns-in-Ok-clause-answer g c =
     loaded c.args.name.now (g.S.Shelf.files c.args.shelf.now) c.in-Ok.bytes.items (g.S.Shelf.faults c.args.shelf.now) (g.S.Shelf.faults c.read_file.new.self) c.accept.result
-    c.in-Ok.ensures.answer.ok c.in-Ok.ensures.answer.bound (rw c.as_slice.ensures.value at c.accept.ensures)
+    (λ fs e. (c.in-Ok.ensures.answer.of_told fs e).ok) c.in-Ok.ensures.answer.bound (rw c.as_slice.ensures.value at c.accept.ensures)
 
 pub returns-in-Err-NotThere-clause-answer : goal.returns-in-Err-NotThere-clause-answer
 returns-in-Err-NotThere-clause-answer g c =
     missing c.args.name.now (g.S.Shelf.files c.args.shelf.now) (g.S.Shelf.faults c.args.shelf.now) (g.S.Shelf.faults c.read_file.new.self)
-    (λ fs e. c.in-Err-NotThere.ensures.answer.not_there fs e (search rules))
+    (λ fs e. (c.in-Err-NotThere.ensures.answer.of_told fs e).not_there (search rules))
 
 pub returns-in-Err-TooLong-clause-answer : goal.returns-in-Err-TooLong-clause-answer
 returns-in-Err-TooLong-clause-answer g c =
     too_long c.args.name.now (g.S.Shelf.files c.args.shelf.now) (g.S.Shelf.faults c.args.shelf.now) (g.S.Shelf.faults c.read_file.new.self)
-    (λ fs e. c.in-Err-TooLong.ensures.answer.too_long fs e (search rules))
+    (λ fs e. (c.in-Err-TooLong.ensures.answer.of_told fs e).too_long (search rules))

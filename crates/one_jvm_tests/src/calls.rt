@@ -1,17 +1,24 @@
 //! Calls over memory: what they answer, and what the streams hold.
 
-use crate::{Outcome, Refusal, Stop, cjvm};
 use cjvm_io::{MemShelf, VecSink};
 use class_file::ClassErr;
+use one_jvm::{Outcome, Refusal, Stop, cjvm, without_words};
 use std::alloc::{AllocError, Global};
 use std::test::Fail;
-use thin_file::HEAD;
 
-/// The bytes of A.class behind its head: it prints 2 + 3.
-const TAIL: [u8; 28] = [
-    0, 0, 0, 0x16, 0, 3, 0, 1, 0, 0, 0, 0x0a, 0xb2, 0, 0x0d, 5, 6, 0x60, 0xb6, 0, 0x13, 0xb1, 0, 0,
-    0, 0, 0, 0,
-];
+/// The class A, up to the length of its code's attribute: it prints 2 + 3.
+const HEAD: &[u8; 214] =
+    b"\xca\xfe\xba\xbe\x00\x00\x00.\x00\x14\x01\x00\x01A\x07\x00\x01\x01\x00\x10java/lang/\
+    Object\x07\x00\x03\x01\x00\x04main\x01\x00\x16([Ljava/lang/String;)V\x01\x00\x04Code\
+    \x01\x00\x10java/lang/System\x07\x00\x08\x01\x00\x03out\x01\x00\x15Ljava/io/PrintStr\
+    eam;\x0c\x00\x0a\x00\x0b\x09\x00\x09\x00\x0c\x01\x00\x13java/io/PrintStream\x07\x00\
+    \x0e\x01\x00\x07println\x01\x00\x04(I)V\x0c\x00\x10\x00\x11\x0a\x00\x0f\x00\x12\x00!\
+    \x00\x02\x00\x04\x00\x00\x00\x00\x00\x01\x00\x09\x00\x05\x00\x06\x00\x01\x00\x07";
+
+/// What follows.
+const TAIL: &[u8; 28] =
+    b"\x00\x00\x00\x16\x00\x03\x00\x01\x00\x00\x00\x0a\xb2\x00\x0d\x05\x06`\xb6\x00\x13\xb1\
+    \x00\x00\x00\x00\x00\x00";
 
 /// What a call left.
 #[derive(Drop)]
@@ -73,7 +80,7 @@ fn runs_the_first_file(rt: HostRuntime) -> Result<(), Fail> {
     assert_eq!(rt; left.err.as_slice(), b"".as_slice());
 
     // The byte at 231 is the arithmetic: isub in place of iadd.
-    let mut tail = TAIL;
+    let mut tail = *TAIL;
     tail[17] = 0x64;
     let left = call(
         alloc,
@@ -254,6 +261,16 @@ fn tells_faults(rt: HostRuntime) -> Result<(), Fail> {
         assert_eq!(rt; left.out.as_slice(), out);
         assert_eq!(rt; left.err.as_slice(), err);
     }
+    Ok(())
+}
+
+#[test]
+fn reports_want_of_memory_for_words(rt: HostRuntime) -> Result<(), Fail> {
+    let alloc = rt.alloc();
+    let mut err = VecSink::new(alloc, 100, 100, Vec::new(alloc))?;
+    let outcome = without_words(alloc, &mut err);
+    assert_eq!(rt; outcome.status, 20);
+    assert_eq!(rt; err.bytes(), b"cjvm: want of memory\n".as_slice());
     Ok(())
 }
 

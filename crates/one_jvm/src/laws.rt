@@ -1,0 +1,13 @@
+//! Laws above the definitions.
+
+ghost use Rattle.std.specs.Prelude.{◌≡◌, ℕ, List, Option};
+ghost use Rattle.cjvm_io.specs.Shelves.{Files};
+ghost use Rattle.one_jvm.specs.declared.outcome.Refusal.{Refusal as Refused};
+ghost use Rattle.one_jvm.specs.Outcomes.{status_of};
+ghost use Rattle.one_jvm.specs.Verdicts.{IsVerdict};
+
+/// Files and words have one status at most.
+pub fn verdict_is_one()
+    ensures status { (fs : Files) (words : List (List ℕ)) (v w : Option Refused)
+        → IsVerdict fs words v → IsVerdict fs words w → status_of v ≡ status_of w }
+{}

@@ -1,0 +1,5 @@
+//! Tests of the top call over memory.
+#![tactic(auto)]
+
+#[cfg(test)]
+mod calls;
