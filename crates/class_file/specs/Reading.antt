@@ -1,4 +1,5 @@
--- How a file is read, from front to back. What is promised stands in Refused, and in class_format's Meaning.
+-- How a file is read, from front to back. What is promised stands in Refused, and in
+-- class_format's Meaning.
 pub mod Words
 pub mod Pools
 pub mod Members

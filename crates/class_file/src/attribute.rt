@@ -1,9 +1,7 @@
 //! Attributes, of which all but two are skipped.
 
 ghost use Rattle.std.specs.Prelude.{◌≡◌};
-ghost use Rattle.jvm_base.specs.Told.{Gives};
-ghost use Rattle.class_file.specs.Reasons.{told};
-ghost use Rattle.class_file.specs.Reading.Words.{counted_at};
+ghost use Rattle.class_file.specs.Reading.Words.{Reads, counted_at};
 ghost use Rattle.class_file.specs.Reading.Members.{attribute_at, skipped_at, other_at};
 
 use crate::error::ClassErr;
@@ -21,7 +19,7 @@ pub(crate) struct AttributeHead {
 /// Reads an attribute up to its contents (JVMS2 4.7).
 #[tactic(auto, unfolding(crate::specs::Reading::Members::attribute_at))]
 pub(crate) fn next_attribute(reader: &mut Reader, texts: &Texts) -> Result<AttributeHead, ClassErr>
-    ensures { Gives told (λ a. (a, reader.new)) result (attribute_at texts.now reader.old) }
+    ensures { Reads reader.new result (attribute_at texts.now reader.old) }
 {
     let name_at = reader.offset();
     let name = reader.u2()?;
@@ -35,7 +33,7 @@ pub(crate) fn next_attribute(reader: &mut Reader, texts: &Texts) -> Result<Attri
 
 #[tactic(auto, unfolding(crate::specs::Reading::Members::other_at, crate::specs::Reading::Members::skipped_at))]
 fn other(reader: &mut Reader, texts: &Texts) -> Result<(), ClassErr>
-    ensures { Gives told (λ s. (s, reader.new)) result (other_at texts.now tt reader.old) }
+    ensures { Reads reader.new result (other_at texts.now tt reader.old) }
 {
     let attribute = next_attribute(reader, texts)?;
     reader.take(attribute.len)?;
@@ -44,7 +42,7 @@ fn other(reader: &mut Reader, texts: &Texts) -> Result<(), ClassErr>
 
 /// Skips so many attributes as the count says, and the count.
 pub(crate) fn other_attributes(reader: &mut Reader, texts: &Texts) -> Result<(), ClassErr>
-    ensures { Gives told (λ s. (s, reader.new)) result (counted_at (other_at texts.now) tt reader.old) }
+    ensures { Reads reader.new result (counted_at (other_at texts.now) tt reader.old) }
 {
     let count = reader.u2()?;
     for _ in 0..count {

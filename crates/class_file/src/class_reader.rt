@@ -3,7 +3,7 @@
 ghost use Rattle.std.specs.Prelude.{◌≡◌, ◌<◌, ◌^◌, Ok, Err, Some, length, slice_get, IfOk, IfErr};
 ghost use Rattle.jvm_base.specs.Told.{Gives, itself};
 ghost use Rattle.class_file.specs.Reasons.{told};
-ghost use Rattle.class_file.specs.Reading.Words.{listed_at};
+ghost use Rattle.class_file.specs.Reading.Words.{Reads, listed_at};
 ghost use Rattle.class_format.specs.Meaning.{IsClass, Spells};
 ghost use Rattle.class_format.specs.Versions.{is_other_version};
 ghost use Rattle.class_file.specs.declared.error.ClassErr.{ClassErr as Refusal};
@@ -40,7 +40,7 @@ struct Members {
 
 #[tactic(auto, unfolding(crate::specs::Reading::Classes::version_numbers_at))]
 fn version_numbers(reader: &mut Reader) -> Result<(u16, u16), ClassErr>
-    ensures { Gives told (λ v. ((v.0, v.1), reader.new)) result (version_numbers_at reader.old) }
+    ensures { Reads reader.new result (version_numbers_at reader.old) }
 {
     let minor = reader.u2()?;
     let major = reader.u2()?;
@@ -49,7 +49,7 @@ fn version_numbers(reader: &mut Reader) -> Result<(u16, u16), ClassErr>
 
 #[tactic(auto, unfolding(crate::specs::Reading::Classes::version_at))]
 fn version(reader: &mut Reader) -> Result<(u16, u16), ClassErr>
-    ensures { Gives told (λ v. ((v.0, v.1), reader.new)) result (version_at reader.old) }
+    ensures { Reads reader.new result (version_at reader.old) }
 {
     if reader.u4()? != MAGIC {
         return Err(ClassErr::Magic);
@@ -63,7 +63,7 @@ fn version(reader: &mut Reader) -> Result<(u16, u16), ClassErr>
 
 #[tactic(auto, unfolding(crate::specs::Reading::Classes::class_index_at))]
 fn class_index(reader: &mut Reader, texts: &Texts) -> Result<u16, ClassErr>
-    ensures { Gives told (λ n. (n, reader.new)) result (class_index_at texts.now reader.old) }
+    ensures { Reads reader.new result (class_index_at texts.now reader.old) }
 {
     let at = reader.offset();
     let class = reader.u2()?;
@@ -75,7 +75,7 @@ fn class_index(reader: &mut Reader, texts: &Texts) -> Result<u16, ClassErr>
 
 #[tactic(auto, unfolding(crate::specs::Reading::Classes::super_index_at))]
 fn super_index(reader: &mut Reader, texts: &Texts) -> Result<u16, ClassErr>
-    ensures { Gives told (λ n. (n, reader.new)) result (super_index_at texts.now reader.old) }
+    ensures { Reads reader.new result (super_index_at texts.now reader.old) }
 {
     let at = reader.offset();
     let class = reader.u2()?;
@@ -86,7 +86,7 @@ fn super_index(reader: &mut Reader, texts: &Texts) -> Result<u16, ClassErr>
 }
 
 fn interfaces(alloc: Global, reader: &mut Reader, texts: &Texts) -> Result<List<u16>, ClassErr>
-    ensures { Gives told (λ list. (list, reader.new)) result (listed_at (interface_at texts.now) reader.old) }
+    ensures { Reads reader.new result (listed_at (interface_at texts.now) reader.old) }
 {
     let count = reader.u2()?;
     let mut interfaces = List::new(alloc);
@@ -99,7 +99,7 @@ fn interfaces(alloc: Global, reader: &mut Reader, texts: &Texts) -> Result<List<
 
 #[tactic(auto, unfolding(crate::specs::Reading::Classes::names_at))]
 fn class_names(alloc: Global, reader: &mut Reader, texts: &Texts) -> Result<Names, ClassErr>
-    ensures { Gives told (λ n. (n, reader.new)) result (names_at texts.now reader.old) }
+    ensures { Reads reader.new result (names_at texts.now reader.old) }
 {
     let flags_at = reader.offset();
     let flags = reader.u2()?;
@@ -122,7 +122,7 @@ fn class_names(alloc: Global, reader: &mut Reader, texts: &Texts) -> Result<Name
 fn class_members(alloc: Global, reader: &mut Reader, pool: &Pool) -> Result<Members, ClassErr>
     requires long { length pool.now < 2 ^ 16 }
     requires gap { slice_get pool.now 0 ≡ Some PoolItem.Gap }
-    ensures { Gives told (λ m. (m, reader.new)) result (members_at pool.now reader.old) }
+    ensures { Reads reader.new result (members_at pool.now reader.old) }
 {
     let facts = TextFacts::of(alloc, pool.as_slice())?;
     let texts = facts.texts();
@@ -143,7 +143,7 @@ fn class_members(alloc: Global, reader: &mut Reader, pool: &Pool) -> Result<Memb
 /// Reads a class file, whatever follows it.
 #[tactic(auto, unfolding(crate::specs::Reading::Classes::class_body_at))]
 fn class_body(alloc: Global, reader: &mut Reader) -> Result<ClassFile, ClassErr>
-    ensures { Gives told (λ c. (c, reader.new)) result (class_body_at reader.old) }
+    ensures { Reads reader.new result (class_body_at reader.old) }
 {
     let (minor, major) = version(reader)?;
     let count = reader.u2()?;

@@ -2,9 +2,7 @@
 
 ghost use Rattle.std.specs.Prelude.{◌≡◌, List as Items, IfOk};
 ghost use Rattle.jvm_base.specs.declared.code_item.TableItem.{TableItem as Entry};
-ghost use Rattle.jvm_base.specs.Told.{Gives};
-ghost use Rattle.class_file.specs.Reasons.{told};
-ghost use Rattle.class_file.specs.Reading.Words.{listed_at};
+ghost use Rattle.class_file.specs.Reading.Words.{Reads, listed_at};
 ghost use Rattle.class_file.specs.Reading.Members.{entry_numbers_at, table_item_at, sizes_at, code_contents_at, code_at};
 
 use crate::attribute::{AttributeHead, other_attributes};
@@ -25,7 +23,7 @@ struct CodeSizes {
 
 #[tactic(auto, unfolding(crate::specs::Reading::Members::entry_numbers_at))]
 fn entry_numbers(reader: &mut Reader) -> Result<TableItem, ClassErr>
-    ensures { Gives told (λ t. (t, reader.new)) result (entry_numbers_at reader.old) }
+    ensures { Reads reader.new result (entry_numbers_at reader.old) }
 {
     let start = reader.u2()?;
     let end = reader.u2()?;
@@ -41,7 +39,8 @@ fn entry_numbers(reader: &mut Reader) -> Result<TableItem, ClassErr>
 
 #[tactic(auto, unfolding(crate::specs::Reading::Members::table_item_at))]
 fn table_item(reader: &mut Reader, texts: &Texts) -> Result<TableItem, ClassErr>
-    ensures { (earlier : Items Entry) → Gives told (λ t. (t, reader.new)) result (table_item_at texts.now earlier reader.old) }
+    ensures { (earlier : Items Entry)
+        → Reads reader.new result (table_item_at texts.now earlier reader.old) }
 {
     let class_at = reader.offset_after(6);
     let item = entry_numbers(reader)?;
@@ -52,7 +51,7 @@ fn table_item(reader: &mut Reader, texts: &Texts) -> Result<TableItem, ClassErr>
 }
 
 fn table(alloc: Global, reader: &mut Reader, texts: &Texts) -> Result<List<TableItem>, ClassErr>
-    ensures { Gives told (λ table. (table, reader.new)) result (listed_at (table_item_at texts.now) reader.old) }
+    ensures { Reads reader.new result (listed_at (table_item_at texts.now) reader.old) }
 {
     let count = reader.u2()?;
     let mut table = List::new(alloc);
@@ -73,7 +72,7 @@ fn copied(alloc: Global, bytes: &[u8]) -> Result<List<u8>, NoMemory>
 
 #[tactic(auto, unfolding(crate::specs::Reading::Members::sizes_at))]
 fn sizes(reader: &mut Reader) -> Result<CodeSizes, ClassErr>
-    ensures { Gives told (λ c. (c, reader.new)) result (sizes_at reader.old) }
+    ensures { Reads reader.new result (sizes_at reader.old) }
 {
     let max_stack = reader.u2()?;
     let max_locals = reader.u2()?;
@@ -92,7 +91,7 @@ fn code_contents(
     texts: &Texts,
     method: u16,
 ) -> Result<CodeItem, ClassErr>
-    ensures { Gives told (λ c. (c, reader.new)) result (code_contents_at texts.now method reader.old) }
+    ensures { Reads reader.new result (code_contents_at texts.now method reader.old) }
 {
     let sizes = sizes(reader)?;
     if !is_code_len(sizes.len as usize) {
@@ -118,7 +117,7 @@ pub(crate) fn code(
     method: u16,
     attribute: AttributeHead,
 ) -> Result<CodeItem, ClassErr>
-    ensures { Gives told (λ c. (c, reader.new)) result (code_at texts.now method attribute reader.old) }
+    ensures { Reads reader.new result (code_at texts.now method attribute reader.old) }
 {
     let left = reader.left();
     let code = code_contents(alloc, reader, texts, method)?;

@@ -19,7 +19,7 @@ pub enum ClassErr {
     Version(u16, u16),
     /// The next field ends past the end of the file, which has this length.
     Cut(u64),
-    /// The tag at this index is none (JVMS2 4.4), or its item takes a second index that isn't there.
+    /// The tag at this index is none (JVMS2 4.4), or its item's second index isn't there.
     PoolTag(u16),
     /// The text at this index isn't modified UTF-8 (JVMS2 4.4.7).
     PoolText(u16),

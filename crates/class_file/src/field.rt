@@ -2,9 +2,7 @@
 
 ghost use Rattle.std.specs.Prelude.{◌≡◌, ◌++◌, ◌∷◌, [], List as Items, ℕ, IfOk, None};
 ghost use Rattle.class_format.specs.declared.class.FieldItem.{FieldItem as Item};
-ghost use Rattle.jvm_base.specs.Told.{Gives};
-ghost use Rattle.class_file.specs.Reasons.{told};
-ghost use Rattle.class_file.specs.Reading.Words.{counted_at, listed_at};
+ghost use Rattle.class_file.specs.Reading.Words.{Reads, counted_at, listed_at};
 ghost use Rattle.class_file.specs.Reading.Seen.{HasSeen};
 ghost use Rattle.class_format.specs.Members.{field_keys};
 ghost use Rattle.class_format.specs.KnownTexts.{is_constant_at};
@@ -30,7 +28,7 @@ fn constant(
     kept: Option<u16>,
     attribute: AttributeHead,
 ) -> Result<Option<u16>, ClassErr>
-    ensures { Gives told (λ k. (k, reader.new)) result (constant_at texts.now desc kept attribute reader.old) }
+    ensures { Reads reader.new result (constant_at texts.now desc kept attribute reader.old) }
 {
     if kept.is_some() {
         return Err(ClassErr::AttrLength(attribute.at));
@@ -53,7 +51,7 @@ fn field_attribute(
     head: MemberHead,
     kept: Option<u16>,
 ) -> Result<Option<u16>, ClassErr>
-    ensures { Gives told (λ k. (k, reader.new)) result (field_attribute_at texts.now head kept reader.old) }
+    ensures { Reads reader.new result (field_attribute_at texts.now head kept reader.old) }
 {
     let attribute = next_attribute(reader, texts)?;
     if has_flag(head.flags, STATIC) && is_constant_value(texts.items(), attribute.name) {
@@ -68,7 +66,8 @@ fn field_attributes(
     texts: &Texts,
     head: MemberHead,
 ) -> Result<Option<u16>, ClassErr>
-    ensures { Gives told (λ k. (k, reader.new)) result (counted_at (field_attribute_at texts.now head) None reader.old) }
+    ensures { Reads reader.new result
+        (counted_at (field_attribute_at texts.now head) None reader.old) }
 {
     let count = reader.u2()?;
     let mut constant = None;
@@ -84,8 +83,10 @@ fn field(
     texts: &Texts,
     seen: &mut BTreeSet<(u16, u16)>,
 ) -> Result<FieldItem, ClassErr>
-    ensures exact { (earlier : Items Item) → HasSeen texts.now seen.old (field_keys earlier) → Gives told (λ f. (f, reader.new)) result (field_at texts.now earlier reader.old) }
-    ensures seen { (earlier : Items Item) → HasSeen texts.now seen.old (field_keys earlier) → IfOk result (λ f. HasSeen texts.now seen.new (field_keys (earlier ++ f ∷ []))) }
+    ensures exact { (earlier : Items Item) → HasSeen texts.now seen.old (field_keys earlier)
+        → Reads reader.new result (field_at texts.now earlier reader.old) }
+    ensures seen { (earlier : Items Item) → HasSeen texts.now seen.old (field_keys earlier)
+        → IfOk result (λ f. HasSeen texts.now seen.new (field_keys (earlier ++ f ∷ []))) }
 {
     let head = new_head(reader, texts, MemberKind::Field, seen)?;
     let constant = field_attributes(reader, texts, head)?;
@@ -103,7 +104,7 @@ pub(crate) fn fields(
     reader: &mut Reader,
     texts: &Texts,
 ) -> Result<List<FieldItem>, ClassErr>
-    ensures { Gives told (λ fields. (fields, reader.new)) result (listed_at (field_at texts.now) reader.old) }
+    ensures { Reads reader.new result (listed_at (field_at texts.now) reader.old) }
 {
     let count = reader.u2()?;
     let mut fields = List::new(alloc);

@@ -1,8 +1,7 @@
 //! What fields and methods begin with.
 
 ghost use Rattle.std.specs.Prelude.{◌≡◌, ◌++◌, ◌∷◌, [], List, ℕ, IfOk};
-ghost use Rattle.jvm_base.specs.Told.{Gives};
-ghost use Rattle.class_file.specs.Reasons.{told};
+ghost use Rattle.class_file.specs.Reading.Words.{Reads};
 ghost use Rattle.class_format.specs.KnownTexts.{is_named};
 ghost use Rattle.class_format.specs.Members.{is_without_receiver, is_desc_of, flags_clash};
 ghost use Rattle.class_file.specs.Reading.Seen.{HasSeen};
@@ -18,7 +17,7 @@ use std::collections::BTreeSet;
 
 #[tactic(auto, unfolding(crate::specs::Reading::Members::head_numbers_at))]
 fn head_numbers(reader: &mut Reader) -> Result<MemberHead, ClassErr>
-    ensures { Gives told (λ h. (h, reader.new)) result (head_numbers_at reader.old) }
+    ensures { Reads reader.new result (head_numbers_at reader.old) }
 {
     let flags = reader.u2()?;
     let name = reader.u2()?;
@@ -28,7 +27,7 @@ fn head_numbers(reader: &mut Reader) -> Result<MemberHead, ClassErr>
 
 #[tactic(auto, unfolding(crate::specs::Reading::Members::head_at))]
 fn any_head(reader: &mut Reader, texts: &Texts, kind: MemberKind) -> Result<MemberHead, ClassErr>
-    ensures { Gives told (λ h. (h, reader.new)) result (head_at kind texts.now reader.old) }
+    ensures { Reads reader.new result (head_at kind texts.now reader.old) }
 {
     let flags_at = reader.offset();
     let name_at = reader.offset_after(2);
@@ -56,8 +55,10 @@ pub(crate) fn new_head(
     kind: MemberKind,
     seen: &mut BTreeSet<(u16, u16)>,
 ) -> Result<MemberHead, ClassErr>
-    ensures exact { (keys : List (ℕ × ℕ)) → HasSeen texts.now seen.old keys → Gives told (λ h. (h, reader.new)) result (new_head_at kind texts.now keys reader.old) }
-    ensures seen { (keys : List (ℕ × ℕ)) → HasSeen texts.now seen.old keys → IfOk result (λ h. HasSeen texts.now seen.new (keys ++ (h.name, h.desc) ∷ [])) }
+    ensures exact { (keys : List (ℕ × ℕ)) → HasSeen texts.now seen.old keys
+        → Reads reader.new result (new_head_at kind texts.now keys reader.old) }
+    ensures seen { (keys : List (ℕ × ℕ)) → HasSeen texts.now seen.old keys
+        → IfOk result (λ h. HasSeen texts.now seen.new (keys ++ (h.name, h.desc) ∷ [])) }
 {
     let at = reader.offset();
     let head = any_head(reader, texts, kind)?;

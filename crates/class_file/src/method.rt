@@ -4,7 +4,7 @@ ghost use Rattle.std.specs.Prelude.{◌≡◌, ◌++◌, ◌∷◌, [], List as 
 ghost use Rattle.class_format.specs.declared.class.MethodItem.{MethodItem as Item};
 ghost use Rattle.jvm_base.specs.Told.{Gives};
 ghost use Rattle.class_file.specs.Reasons.{told};
-ghost use Rattle.class_file.specs.Reading.Words.{counted_at, listed_at};
+ghost use Rattle.class_file.specs.Reading.Words.{Reads, counted_at, listed_at};
 ghost use Rattle.class_file.specs.Reading.Seen.{HasSeen};
 ghost use Rattle.class_format.specs.Members.{method_keys, code_count};
 ghost use Rattle.class_file.specs.Reading.Members.{another_code_at, method_attribute_at, method_at};
@@ -29,7 +29,8 @@ fn another_code(
     codes: &mut List<CodeItem>,
     attribute: AttributeHead,
 ) -> Result<(), ClassErr>
-    ensures { Gives told (λ _. (codes.new, reader.new)) result (another_code_at texts.now method codes.old attribute reader.old) }
+    ensures { Gives told (λ _. (codes.new, reader.new)) result
+        (another_code_at texts.now method codes.old attribute reader.old) }
 {
     let code = code(alloc, reader, texts, method, attribute)?;
     codes.push(code)?;
@@ -44,7 +45,8 @@ fn method_attribute(
     method: u16,
     codes: &mut List<CodeItem>,
 ) -> Result<(), ClassErr>
-    ensures { Gives told (λ _. (codes.new, reader.new)) result (method_attribute_at texts.now method codes.old reader.old) }
+    ensures { Gives told (λ _. (codes.new, reader.new)) result
+        (method_attribute_at texts.now method codes.old reader.old) }
 {
     let attribute = next_attribute(reader, texts)?;
     if is_code(texts.items(), attribute.name) {
@@ -61,7 +63,8 @@ fn method_attributes(
     texts: &Texts,
     method: u16,
 ) -> Result<List<CodeItem>, ClassErr>
-    ensures { Gives told (λ codes. (codes, reader.new)) result (counted_at (method_attribute_at texts.now method) [] reader.old) }
+    ensures { Reads reader.new result
+        (counted_at (method_attribute_at texts.now method) [] reader.old) }
 {
     let count = reader.u2()?;
     let mut codes = List::new(alloc);
@@ -79,8 +82,11 @@ fn method(
     number: u16,
     seen: &mut BTreeSet<(u16, u16)>,
 ) -> Result<MethodItem, ClassErr>
-    ensures exact { (earlier : Items Item) → length earlier ≡ number → HasSeen texts.now seen.old (method_keys earlier) → Gives told (λ m. (m, reader.new)) result (method_at texts.now earlier reader.old) }
-    ensures seen { (earlier : Items Item) → HasSeen texts.now seen.old (method_keys earlier) → IfOk result (λ m. HasSeen texts.now seen.new (method_keys (earlier ++ m ∷ []))) }
+    ensures exact { (earlier : Items Item) → length earlier ≡ number
+        → HasSeen texts.now seen.old (method_keys earlier)
+        → Reads reader.new result (method_at texts.now earlier reader.old) }
+    ensures seen { (earlier : Items Item) → HasSeen texts.now seen.old (method_keys earlier)
+        → IfOk result (λ m. HasSeen texts.now seen.new (method_keys (earlier ++ m ∷ []))) }
 {
     let head = new_head(reader, texts, MemberKind::Method, seen)?;
     let mut codes = method_attributes(alloc, reader, texts, number)?;
@@ -101,7 +107,7 @@ pub(crate) fn methods(
     reader: &mut Reader,
     texts: &Texts,
 ) -> Result<List<MethodItem>, ClassErr>
-    ensures { Gives told (λ methods. (methods, reader.new)) result (listed_at (method_at texts.now) reader.old) }
+    ensures { Reads reader.new result (listed_at (method_at texts.now) reader.old) }
 {
     let count = reader.u2()?;
     let mut methods = List::new(alloc);

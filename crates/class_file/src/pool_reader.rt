@@ -1,8 +1,7 @@
 //! The constant pool, read from its bytes.
 
 ghost use Rattle.std.specs.Prelude.{◌≡◌, ◌<◌, ◌≤◌, ◌^◌, length, Some, slice_get, IfOk, max};
-ghost use Rattle.jvm_base.specs.Told.{Gives};
-ghost use Rattle.class_file.specs.Reasons.{told};
+ghost use Rattle.class_file.specs.Reading.Words.{Reads};
 ghost use Rattle.class_file.specs.Reading.Pools.{text_item_at, content_at, two_indices_at, item_at, next_item_at, is_after_wide, pool_at};
 
 use crate::error::ClassErr;
@@ -13,7 +12,7 @@ use std::alloc::Global;
 
 #[tactic(auto, unfolding(crate::specs::Reading::Pools::text_item_at))]
 fn text_item(alloc: Global, reader: &mut Reader, index: u16) -> Result<PoolItem, ClassErr>
-    ensures { Gives told (λ item. (item, reader.new)) result (text_item_at index reader.old) }
+    ensures { Reads reader.new result (text_item_at index reader.old) }
 {
     let len = reader.u2()?;
     let bytes = reader.take(len as u32)?;
@@ -32,7 +31,7 @@ fn content(
     index: u16,
     has_room: bool,
 ) -> Result<PoolItem, ClassErr>
-    ensures { Gives told (λ item. (item, reader.new)) result (content_at tag index has_room reader.old) }
+    ensures { Reads reader.new result (content_at tag index has_room reader.old) }
 {
     match tag {
         1 => text_item(alloc, reader, index),
@@ -65,7 +64,7 @@ fn content(
 
 #[tactic(auto, unfolding(crate::specs::Reading::Pools::two_indices_at))]
 fn two_indices(reader: &mut Reader) -> Result<(u16, u16), ClassErr>
-    ensures { Gives told (λ pair. (pair, reader.new)) result (two_indices_at reader.old) }
+    ensures { Reads reader.new result (two_indices_at reader.old) }
 {
     let first = reader.u2()?;
     let second = reader.u2()?;
@@ -79,7 +78,7 @@ fn item(
     index: u16,
     has_room: bool,
 ) -> Result<PoolItem, ClassErr>
-    ensures { Gives told (λ item. (item, reader.new)) result (item_at index has_room reader.old) }
+    ensures { Reads reader.new result (item_at index has_room reader.old) }
 {
     let tag = reader.u1()?;
     content(alloc, reader, tag, index, has_room)
@@ -103,7 +102,7 @@ fn next_item(
     count: u16,
 ) -> Result<PoolItem, ClassErr>
     requires { length pool.now < count }
-    ensures { Gives told (λ item. (item, reader.new)) result (next_item_at count pool.now reader.old) }
+    ensures { Reads reader.new result (next_item_at count pool.now reader.old) }
 {
     if is_after_wide(pool) {
         return Ok(PoolItem::Gap);
@@ -116,7 +115,7 @@ fn next_item(
 pub(crate) fn pool(alloc: Global, reader: &mut Reader, count: u16) -> Result<Pool, ClassErr>
     ensures long { IfOk result (λ pool. length pool < 2 ^ 16) }
     ensures gap { IfOk result (λ pool. slice_get pool 0 ≡ Some PoolItem.Gap) }
-    ensures exact { Gives told (λ pool. (pool, reader.new)) result (pool_at count reader.old) }
+    ensures exact { Reads reader.new result (pool_at count reader.old) }
 {
     let mut pool = Pool::new(alloc)?;
     for _ in 1..count {

@@ -4,7 +4,7 @@ ghost use Rattle.std.specs.Prelude.{◌≡◌, ◌-◌, ◌==◌, ◌≤◌, ◌
 ghost use Rattle.std.specs.Int.{w8, w16, w32, w64};
 ghost use Rattle.jvm_base.specs.Told.{Gives};
 ghost use Rattle.class_file.specs.Reasons.{told};
-ghost use Rattle.class_file.specs.Reading.Words.{number_at, bytes_at, offset_of, after};
+ghost use Rattle.class_file.specs.Reading.Words.{Reads, number_at, bytes_at, offset_of, after};
 
 use crate::error::ClassErr;
 use byteorder::{BigEndian, ByteOrder};
@@ -71,7 +71,7 @@ impl<'a> Reader<'a> {
 
     /// One byte.
     pub(crate) fn u1(&mut self) -> Result<u8, ClassErr>
-        ensures { Gives told (λ n. (n, self.new)) result (number_at w8 self.old) }
+        ensures { Reads self.new result (number_at w8 self.old) }
     {
         if self.rest.is_empty() {
             return Err(ClassErr::Cut(self.total as u64));
@@ -83,7 +83,7 @@ impl<'a> Reader<'a> {
 
     /// A number of two bytes.
     pub(crate) fn u2(&mut self) -> Result<u16, ClassErr>
-        ensures { Gives told (λ n. (n, self.new)) result (number_at w16 self.old) }
+        ensures { Reads self.new result (number_at w16 self.old) }
     {
         if self.rest.len() < 2 {
             return Err(ClassErr::Cut(self.total as u64));
@@ -95,7 +95,7 @@ impl<'a> Reader<'a> {
 
     /// A number of four bytes.
     pub(crate) fn u4(&mut self) -> Result<u32, ClassErr>
-        ensures { Gives told (λ n. (n, self.new)) result (number_at w32 self.old) }
+        ensures { Reads self.new result (number_at w32 self.old) }
     {
         if self.rest.len() < 4 {
             return Err(ClassErr::Cut(self.total as u64));
@@ -107,7 +107,7 @@ impl<'a> Reader<'a> {
 
     /// A number of eight bytes.
     pub(crate) fn u8(&mut self) -> Result<u64, ClassErr>
-        ensures { Gives told (λ n. (n, self.new)) result (number_at w64 self.old) }
+        ensures { Reads self.new result (number_at w64 self.old) }
     {
         if self.rest.len() < 8 {
             return Err(ClassErr::Cut(self.total as u64));

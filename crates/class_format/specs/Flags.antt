@@ -48,11 +48,14 @@ is_abstract flags = has_flag flags 1024
 
 -- more than one of public, private and protected
 abbrev pub has_two_accesses : ℕ → Bool
-has_two_accesses flags = is_public flags && is_private flags || is_public flags && is_protected flags || is_private flags && is_protected flags
+has_two_accesses flags =
+    is_public flags && is_private flags || is_public flags && is_protected flags
+    || is_private flags && is_protected flags
 
 -- an interface counts as abstract
 abbrev pub class_flags_clash : ℕ → Bool
-class_flags_clash flags = is_final flags && (is_abstract flags || is_interface flags) || has_two_accesses flags
+class_flags_clash flags =
+    is_final flags && (is_abstract flags || is_interface flags) || has_two_accesses flags
 
 -- a final field isn't volatile
 abbrev pub field_flags_clash : ℕ → Bool
@@ -60,8 +63,11 @@ field_flags_clash flags = is_final flags && is_volatile flags || has_two_accesse
 
 -- what an abstract method isn't. without_receiver: by its flags or by its name
 abbrev pub is_bound : Bool → ℕ → Bool
-is_bound without_receiver flags = is_private flags || without_receiver || is_final flags || is_synchronized flags || is_native flags
+is_bound without_receiver flags =
+    is_private flags || without_receiver || is_final flags || is_synchronized flags
+    || is_native flags
 
 -- an abstract method is there to be overridden
 abbrev pub method_flags_clash : Bool → ℕ → Bool
-method_flags_clash without_receiver flags = is_abstract flags && is_bound without_receiver flags || has_two_accesses flags
+method_flags_clash without_receiver flags =
+    is_abstract flags && is_bound without_receiver flags || has_two_accesses flags

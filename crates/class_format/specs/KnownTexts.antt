@@ -19,15 +19,20 @@ is_code us = is_the_text (67 ∷ 111 ∷ 100 ∷ 101 ∷ []) us
 
 -- `ConstantValue`
 abbrev pub is_constant_value : List ℕ → Bool
-is_constant_value us = is_the_text (67 ∷ 111 ∷ 110 ∷ 115 ∷ 116 ∷ 97 ∷ 110 ∷ 116 ∷ 86 ∷ 97 ∷ 108 ∷ 117 ∷ 101 ∷ []) us
+is_constant_value us =
+    is_the_text (67 ∷ 111 ∷ 110 ∷ 115 ∷ 116 ∷ 97 ∷ 110 ∷ 116 ∷ 86 ∷ 97 ∷ 108 ∷ 117 ∷ 101 ∷ []) us
 
 -- `Ljava/lang/String;`
 abbrev pub is_string_desc : List ℕ → Bool
-is_string_desc us = is_the_text (76 ∷ 106 ∷ 97 ∷ 118 ∷ 97 ∷ 47 ∷ 108 ∷ 97 ∷ 110 ∷ 103 ∷ 47 ∷ 83 ∷ 116 ∷ 114 ∷ 105 ∷ 110 ∷ 103 ∷ 59 ∷ []) us
+is_string_desc us =
+    is_the_text (76 ∷ 106 ∷ 97 ∷ 118 ∷ 97 ∷ 47 ∷ 108 ∷ 97 ∷ 110 ∷ 103 ∷ 47 ∷ 83 ∷ 116 ∷ 114 ∷ 105
+    ∷ 110 ∷ 103 ∷ 59 ∷ []) us
 
 -- `I`, `S`, `C`, `B` or `Z`
 abbrev pub is_int_desc : List ℕ → Bool
-is_int_desc us = is_the_text (73 ∷ []) us || is_the_text (83 ∷ []) us || is_the_text (67 ∷ []) us || is_the_text (66 ∷ []) us || is_the_text (90 ∷ []) us
+is_int_desc us =
+    is_the_text (73 ∷ []) us || is_the_text (83 ∷ []) us || is_the_text (67 ∷ []) us
+    || is_the_text (66 ∷ []) us || is_the_text (90 ∷ []) us
 
 -- ---- constants of fields
 
@@ -42,4 +47,6 @@ is_constant desc _ = false
 
 -- the item at an index is a constant of the descriptor at another
 abbrev pub is_constant_at : List PoolItem → ℕ → ℕ → Bool
-is_constant_at pool desc value = option_map_or (λ item. is_text_that (λ us. is_constant us item) pool desc) (slice_get pool value) false
+is_constant_at pool desc value =
+    option_map_or (λ item. is_text_that (λ us. is_constant us item) pool desc)
+    (slice_get pool value) false

@@ -66,7 +66,8 @@ pub record FitsAttribute (pool : List PoolItem) (a : Attribute) : Type 0 where
 
 -- attributes of one class, member or code
 abbrev pub AreAttributes : List PoolItem → List Attribute → Type 0
-AreAttributes pool attributes = AllByRecursion (FitsAttribute pool) attributes × (length attributes < 2 ^ 16)
+AreAttributes pool attributes =
+    AllByRecursion (FitsAttribute pool) attributes × (length attributes < 2 ^ 16)
 
 -- the contents of the attributes that pass
 abbrev pub contents_of : (Attribute → Bool) → List Attribute → List (List ℕ)
@@ -83,7 +84,8 @@ holds_code pool a = is_text_that is_code pool a.name
 -- at most one constant, and one of the field's descriptor
 abbrev pub IsConstant : List PoolItem → ℕ → Option ℕ → List (List ℕ) → Type 0
 IsConstant pool desc None contents = contents ≡ []
-IsConstant pool desc (Some value) contents = (contents ≡ number2 value ∷ []) × (value < 2 ^ 16) × (is_constant_at pool desc value ≡ true)
+IsConstant pool desc (Some value) contents =
+    (contents ≡ number2 value ∷ []) × (value < 2 ^ 16) × (is_constant_at pool desc value ≡ true)
 
 -- each number is one of a byte
 abbrev pub AreBytes : List ℕ → Type 0
@@ -125,7 +127,8 @@ pub record IsCode (pool : List PoolItem) (c : CodeItem) (contents : List ℕ) : 
 -- a native or abstract method has no code, and every other method has one
 abbrev pub HasCode : List PoolItem → ℕ → Option CodeItem → List (List ℕ) → Type 0
 HasCode pool flags None contents = (code_count flags ≡ 0) × (contents ≡ [])
-HasCode pool flags (Some c) contents = (code_count flags ≡ 1) × (one : List ℕ) × (contents ≡ one ∷ []) × IsCode pool c one
+HasCode pool flags (Some c) contents =
+    (code_count flags ≡ 1) × (one : List ℕ) × (contents ≡ one ∷ []) × IsCode pool c one
 
 -- ---- fields and methods
 
@@ -148,16 +151,19 @@ pub record IsMember (kind : MemberKind) (pool : List PoolItem) (m : Member) : Ty
   pub attributes : AreAttributes pool m.attributes
 
 -- the field that is spelled so behind the earlier ones
-pub record IsField (pool : List PoolItem) (earlier : List FieldItem) (m : Member) (f : FieldItem) : Type 0 where
+pub record IsField (pool : List PoolItem) (earlier : List FieldItem) (m : Member)
+    (f : FieldItem) : Type 0 where
   pub member : IsMember kinds.Field pool m
   pub new : is_among pool (field_keys earlier) m.name m.desc ≡ false
   pub flags : f.flags ≡ m.flags
   pub name : f.name ≡ m.name
   pub desc : f.desc ≡ m.desc
-  pub constant : IsConstant pool m.desc f.constant (contents_of (keeps_constant pool m.flags) m.attributes)
+  pub constant : IsConstant pool m.desc f.constant
+      (contents_of (keeps_constant pool m.flags) m.attributes)
 
 -- the method that is spelled so behind the earlier ones
-pub record IsMethod (pool : List PoolItem) (earlier : List MethodItem) (m : Member) (x : MethodItem) : Type 0 where
+pub record IsMethod (pool : List PoolItem) (earlier : List MethodItem) (m : Member)
+    (x : MethodItem) : Type 0 where
   pub member : IsMember kinds.Method pool m
   pub new : is_among pool (method_keys earlier) m.name m.desc ≡ false
   pub flags : x.flags ≡ m.flags
@@ -170,7 +176,8 @@ abbrev pub Spelled : {A X : Type 0} → (List X → A → X → Type 0) → List
 Spelled Is earlier [] [] = Unit {0}
 Spelled Is earlier [] (x ∷ xs) = ⊥
 Spelled Is earlier (a ∷ sources) [] = ⊥
-Spelled Is earlier (a ∷ sources) (x ∷ xs) = Is earlier a x × Spelled Is (earlier ++ x ∷ []) sources xs
+Spelled Is earlier (a ∷ sources) (x ∷ xs) =
+    Is earlier a x × Spelled Is (earlier ++ x ∷ []) sources xs
 
 -- ---- class files
 
@@ -195,7 +202,8 @@ pub record IsKnown (minor major : ℕ) : Type 0 where
   pub version : is_other_version major minor ≡ false
 
 -- flags of a class, and the classes that it names
-pub record AreNames (pool : List PoolItem) (flags this_class super_class : ℕ) (interfaces : List ℕ) : Type 0 where
+pub record AreNames (pool : List PoolItem) (flags this_class super_class : ℕ)
+    (interfaces : List ℕ) : Type 0 where
   pub fits_flags : FitsFlags flags
   pub this_link : FitsLink pool this_class
   pub super_link : FitsSuper pool super_class
@@ -240,20 +248,24 @@ lowest_that test pool = position_or_len (is_item_that test) pool
 -- a ConstantValue, where there is a constant
 abbrev pub constant_attributes : List PoolItem → Option ℕ → List Attribute
 constant_attributes pool None = []
-constant_attributes pool (Some value) = record { name = lowest_that is_constant_value pool; contents = number2 value } ∷ []
+constant_attributes pool (Some value) =
+    record { name = lowest_that is_constant_value pool; contents = number2 value } ∷ []
 
 -- a Code, where there is one
 abbrev pub code_attributes : List PoolItem → Option CodeItem → List Attribute
 code_attributes pool None = []
-code_attributes pool (Some c) = record { name = lowest_that is_code pool; contents = code_bytes c [] } ∷ []
+code_attributes pool (Some c) =
+    record { name = lowest_that is_code pool; contents = code_bytes c [] } ∷ []
 
 -- a field with no attribute but its constant
 abbrev pub plain_field : List PoolItem → FieldItem → Member
-plain_field pool f = record { flags = f.flags; name = f.name; desc = f.desc; attributes = constant_attributes pool f.constant }
+plain_field pool f =
+    record { flags = f.flags; name = f.name; desc = f.desc; attributes = constant_attributes pool f.constant }
 
 -- a method with no attribute but its code
 abbrev pub plain_method : List PoolItem → MethodItem → Member
-plain_method pool m = record { flags = m.flags; name = m.name; desc = m.desc; attributes = code_attributes pool m.code }
+plain_method pool m =
+    record { flags = m.flags; name = m.name; desc = m.desc; attributes = code_attributes pool m.code }
 
 -- a class file with no attribute that is skipped
 abbrev pub plain : ClassFile → Source

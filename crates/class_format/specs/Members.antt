@@ -30,7 +30,9 @@ flags_clash Method without_receiver flags = method_flags_clash without_receiver 
 
 -- one of these names and descriptors has the texts of that name and descriptor
 abbrev pub is_among : List PoolItem → List (ℕ × ℕ) → ℕ → ℕ → Bool
-is_among pool keys name desc = list_any (λ k. is_same_text (text_at pool k.0) (text_at pool name) && is_same_text (text_at pool k.1) (text_at pool desc)) keys
+is_among pool keys name desc =
+    list_any (λ k. is_same_text (text_at pool k.0) (text_at pool name)
+    && is_same_text (text_at pool k.1) (text_at pool desc)) keys
 
 -- the indices of a field's name and descriptor
 abbrev pub field_key : FieldItem → ℕ × ℕ

@@ -87,7 +87,8 @@ attribute_bytes a = number2 a.name ++ number4 (length a.contents) ++ a.contents
 
 -- a field or method (JVMS2 4.5, 4.6)
 abbrev pub member_bytes : Member → List ℕ
-member_bytes m = number2 m.flags ++ number2 m.name ++ number2 m.desc ++ listed attribute_bytes m.attributes
+member_bytes m =
+    number2 m.flags ++ number2 m.name ++ number2 m.desc ++ listed attribute_bytes m.attributes
 
 -- an entry of an exception table
 abbrev pub table_bytes : TableItem → List ℕ
@@ -95,11 +96,15 @@ table_bytes t = number2 t.start ++ number2 t.end ++ number2 t.handler ++ number2
 
 -- the contents of a Code attribute, with the attributes that it has itself
 abbrev pub code_bytes : CodeItem → List Attribute → List ℕ
-code_bytes c others = number2 c.max_stack ++ number2 c.max_locals ++ number4 (length c.code) ++ c.code ++ listed table_bytes c.table ++ listed attribute_bytes others
+code_bytes c others =
+    number2 c.max_stack ++ number2 c.max_locals ++ number4 (length c.code) ++ c.code
+    ++ listed table_bytes c.table ++ listed attribute_bytes others
 
 -- a class file (JVMS2 4.1)
 abbrev pub source_bytes : Source → List ℕ
 source_bytes s =
     number4 magic_number ++ number2 s.minor ++ number2 s.major ++ pool_bytes s.pool
-    ++ number2 s.flags ++ number2 s.this_class ++ number2 s.super_class ++ listed number2 s.interfaces
-    ++ listed member_bytes s.fields ++ listed member_bytes s.methods ++ listed attribute_bytes s.attributes
+    ++ number2 s.flags ++ number2 s.this_class ++ number2 s.super_class
+    ++ listed number2 s.interfaces
+    ++ listed member_bytes s.fields ++ listed member_bytes s.methods
+    ++ listed attribute_bytes s.attributes

@@ -56,7 +56,8 @@ fn is_known(minor: u16, major: u16) -> bool
 
 /// Flags, and the links to classes.
 fn are_names(class: &ClassFile, texts: &Texts) -> bool
-    ensures { IsTrue result ↔ AreNames texts.now class.now.flags class.now.this_class class.now.super_class class.now.interfaces }
+    ensures { IsTrue result ↔ AreNames texts.now class.now.flags class.now.this_class
+        class.now.super_class class.now.interfaces }
 {
     let pool = texts.items();
     let super_class = class.super_class;

@@ -101,7 +101,8 @@ fn are_entries(texts: &Texts, table: &[TableItem]) -> bool
 
 /// What the bytes of a code are is known of their slice.
 fn fits_code(max_stack: u16, max_locals: u16, code: &[u8]) -> bool
-    ensures { IsTrue result ↔ (FitsSizes max_stack max_locals (length code.now) × AreBytes code.now) }
+    ensures { IsTrue result ↔ (FitsSizes max_stack max_locals (length code.now)
+        × AreBytes code.now) }
 {
     is_code_len(code.len())
 }

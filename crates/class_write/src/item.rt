@@ -11,7 +11,8 @@ use std::alloc::Global;
 
 fn push_text(alloc: Global, out: &mut Vec<u8>, text: &Units) -> Result<(), NoMemory>
     requires { length (text_bytes text.now) < 2 ^ 16 }
-    ensures { OnOk result (out.new.items ≡ out.old.items ++ (number2 (length (text_bytes text.now)) ++ text_bytes text.now)) }
+    ensures { OnOk result (out.new.items ≡ out.old.items
+        ++ (number2 (length (text_bytes text.now)) ++ text_bytes text.now)) }
 {
     let bytes = text.write(alloc)?;
     push_u2(out, bytes.len() as u16)?;
@@ -27,7 +28,8 @@ fn push_tagged(out: &mut Vec<u8>, tag: u8, index: u16) -> Result<(), NoMemory>
 }
 
 fn push_pair(out: &mut Vec<u8>, tag: u8, first: u16, second: u16) -> Result<(), NoMemory>
-    ensures { OnOk result (out.new.items ≡ out.old.items ++ (tag ∷ number2 first ++ number2 second)) }
+    ensures { OnOk result (out.new.items ≡ out.old.items
+        ++ (tag ∷ number2 first ++ number2 second)) }
 {
     push_tagged(out, tag, first)?;
     push_u2(out, second)

@@ -52,7 +52,8 @@ fn code_len(code: &CodeItem) -> u32
 
 fn push_code_attribute(out: &mut Vec<u8>, name: u16, code: &CodeItem) -> Result<(), NoMemory>
     requires { FitsCode (Some code.now) }
-    ensures { OnOk result (out.new.items ≡ out.old.items ++ attribute_bytes (record { name = name; contents = code_bytes code.now [] })) }
+    ensures { OnOk result (out.new.items ≡ out.old.items
+        ++ attribute_bytes (record { name = name; contents = code_bytes code.now [] })) }
 {
     push_u2(out, name)?;
     push_u4(out, code_len(code))?;

@@ -72,7 +72,8 @@ fn push_fields(out: &mut Vec<u8>, name: u16, fields: &[FieldItem]) -> Result<(),
 fn push_methods(out: &mut Vec<u8>, name: u16, methods: &[MethodItem]) -> Result<(), NoMemory>
     requires count { length methods.now < 2 ^ 16 }
     requires codes { All (λ m. FitsCode m.code) methods.now }
-    ensures { OnOk result (out.new.items ≡ out.old.items ++ listed (method_bytes name) methods.now) }
+    ensures { OnOk result (out.new.items ≡ out.old.items
+        ++ listed (method_bytes name) methods.now) }
 {
     push_u2(out, methods.len() as u16)?;
     for method in methods {

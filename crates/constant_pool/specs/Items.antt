@@ -75,4 +75,5 @@ pair_text pool i = option_and_then (text_at pool) (option_and_then desc_index (s
 
 -- the item at an index is a name and descriptor whose descriptor passes
 abbrev pub is_pair_that : (List ℕ → Bool) → List PoolItem → ℕ → Bool
-is_pair_that test pool i = option_map_or (is_text_that test pool) (option_and_then desc_index (slice_get pool i)) false
+is_pair_that test pool i =
+    option_map_or (is_text_that test pool) (option_and_then desc_index (slice_get pool i)) false

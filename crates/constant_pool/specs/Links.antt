@@ -20,8 +20,10 @@ abbrev pub is_linked : List PoolItem → PoolItem → Bool
 is_linked pool (Class name) = is_text_that is_class_text pool name
 is_linked pool (Text text) = is_text_at pool text
 is_linked pool (Field class pair) = is_class_at pool class && is_pair_that is_field_text pool pair
-is_linked pool (Method class pair) = is_class_at pool class && is_pair_that (λ us. is_method_of us 255) pool pair
-is_linked pool (InterfaceMethod class pair) = is_class_at pool class && is_pair_that (λ us. is_method_of us 255) pool pair
+is_linked pool (Method class pair) =
+    is_class_at pool class && is_pair_that (λ us. is_method_of us 255) pool pair
+is_linked pool (InterfaceMethod class pair) =
+    is_class_at pool class && is_pair_that (λ us. is_method_of us 255) pool pair
 is_linked pool (NameAndKind name desc) = is_text_at pool name && is_text_at pool desc
 is_linked pool _ = true
 

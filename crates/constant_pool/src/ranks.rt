@@ -28,7 +28,8 @@ fn fill_indices(pool: &[PoolItem], indices: &mut [u16])
 fn sort(pool: &[PoolItem], indices: &mut [u16])
     ensures permutation { IsPermutation indices.old indices.new }
     ensures len { length indices.new ≡ length indices.old }
-    ensures sorted { IsSorted (λ i j. text_cmp (text_at pool.now i) (text_at pool.now j)) indices.new }
+    ensures sorted { IsSorted
+        (λ i j. text_cmp (text_at pool.now i) (text_at pool.now j)) indices.new }
 {
     indices.sort_unstable_by(|index, other| text_order(pool, *index, *other));
 }
@@ -36,7 +37,8 @@ fn sort(pool: &[PoolItem], indices: &mut [u16])
 /// How many of the indices have a text that comes before.
 fn rank(pool: &[PoolItem], sorted: &[u16], index: u16) -> usize
     requires { IsSorted (λ i j. text_cmp (text_at pool.now i) (text_at pool.now j)) sorted.now }
-    ensures value { result ≡ count_by (λ i. comes_before (text_at pool.now i) (text_at pool.now index)) sorted.now }
+    ensures value { result ≡ count_by
+        (λ i. comes_before (text_at pool.now i) (text_at pool.now index)) sorted.now }
     ensures within { result ≤ length sorted.now }
 {
     sorted.partition_point(|other| text_order(pool, *other, index).is_lt())

@@ -54,7 +54,9 @@ impl<'a> Model for TextFacts<'a> {
 
     ghost view = { λ t. t.pool.now };
 
-    ghost invariant = { λ t. (t.kinds.items ≡ map kind_of t.pool.now) × (t.ranks.items ≡ map (λ item. rank_of t.pool.now (text_of item)) t.pool.now) × (slice_get t.pool.now 0 ≡ Some Gap) };
+    ghost invariant = { λ t. (t.kinds.items ≡ map kind_of t.pool.now)
+        × (t.ranks.items ≡ map (λ item. rank_of t.pool.now (text_of item)) t.pool.now)
+        × (slice_get t.pool.now 0 ≡ Some Gap) };
 }
 
 fn kinds_of(alloc: Global, pool: &[PoolItem]) -> Result<Vec<TextKind>, NoMemory>
@@ -67,7 +69,8 @@ fn kinds_of(alloc: Global, pool: &[PoolItem]) -> Result<Vec<TextKind>, NoMemory>
 
 fn ranks_of(alloc: Global, pool: &[PoolItem]) -> Result<Vec<u16>, NoMemory>
     requires { length pool.now < 2 ^ 16 }
-    ensures { IfOk result (λ ranks. ranks.items ≡ map (λ item. rank_of pool.now (text_of item)) pool.now) }
+    ensures { IfOk result
+        (λ ranks. ranks.items ≡ map (λ item. rank_of pool.now (text_of item)) pool.now) }
 {
     let mut indices = vec![in alloc; 0; pool.len()]?;
     let mut ranks = vec![in alloc; 0; pool.len()]?;

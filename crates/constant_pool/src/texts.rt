@@ -50,7 +50,9 @@ impl<'a> Model for Texts<'a> {
 
     ghost view = { λ t. t.pool.now };
 
-    ghost invariant = { λ t. (t.kinds.now ≡ map kind_of t.pool.now) × (t.ranks.now ≡ map (λ item. rank_of t.pool.now (text_of item)) t.pool.now) × (slice_get t.pool.now 0 ≡ Some Gap) };
+    ghost invariant = { λ t. (t.kinds.now ≡ map kind_of t.pool.now)
+        × (t.ranks.now ≡ map (λ item. rank_of t.pool.now (text_of item)) t.pool.now)
+        × (slice_get t.pool.now 0 ≡ Some Gap) };
 }
 
 fn kept(ranks: &[u16], index: u16) -> Option<u16>
@@ -107,7 +109,7 @@ impl<'a> Texts<'a> {
         self.kind(index).instance
     }
 
-    /// Whether the text at the index names a class or an interface, or is the descriptor of an array.
+    /// Whether the text at the index names a class or interface, or is the descriptor of an array.
     pub fn is_class_text(&self, index: u16) -> bool
         ensures { result ≡ is_text_that is_class_text self.now index }
     {
@@ -144,7 +146,9 @@ impl<'a> Texts<'a> {
     /// of the pool come before.
     pub fn rank(&self, index: u16) -> u16
         ensures value { result ≡ rank_at self.now index }
-        ensures tells { (other : ℕ) → (result ≡ rank_at self.now other) ↔ (text_at self.now index ≡ text_at self.now other) }
+        ensures tells { (other : ℕ)
+            → (result ≡ rank_at self.now other) ↔
+            (text_at self.now index ≡ text_at self.now other) }
         ensures gap { slice_get self.now 0 ≡ Some PoolItem.Gap }
     {
         kept(self.ranks, index).unwrap_or(0)

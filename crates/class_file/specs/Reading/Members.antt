@@ -56,12 +56,15 @@ unfoldable pub head_at : MemberKind → List PoolItem → Place → Result (Memb
 head_at kind pool p = do
   h ← head_numbers_at p
   _ ← need (is_text_that is_named pool h.0.name) (ItemLink (offset_of (after 2 p)))
-  _ ← need (is_desc_of kind (is_without_receiver pool h.0.flags h.0.name) pool h.0.desc) (ItemLink (offset_of (after 4 p)))
-  _ ← need (not (flags_clash kind (is_without_receiver pool h.0.flags h.0.name) h.0.flags)) (Flags (offset_of p))
+  _ ← need (is_desc_of kind (is_without_receiver pool h.0.flags h.0.name) pool h.0.desc)
+      (ItemLink (offset_of (after 4 p)))
+  _ ← need (not (flags_clash kind (is_without_receiver pool h.0.flags h.0.name) h.0.flags))
+      (Flags (offset_of p))
   Ok h
 
 -- the earlier ones are of the same kind
-unfoldable pub new_head_at : MemberKind → List PoolItem → List (ℕ × ℕ) → Place → Result (MemberHead × Place) ClassErr
+unfoldable pub new_head_at : MemberKind → List PoolItem → List (ℕ × ℕ) → Place
+    → Result (MemberHead × Place) ClassErr
 new_head_at kind pool earlier p = do
   head ← head_at kind pool p
   _ ← need (not (is_among pool earlier head.0.name head.0.desc)) (Twice (offset_of p))
@@ -70,7 +73,8 @@ new_head_at kind pool earlier p = do
 -- ---- fields
 
 -- the contents of a ConstantValue (JVMS2 4.7.2)
-unfoldable pub constant_at : List PoolItem → ℕ → Option ℕ → AttributeHead → Place → Result (Option ℕ × Place) ClassErr
+unfoldable pub constant_at : List PoolItem → ℕ → Option ℕ → AttributeHead → Place
+    → Result (Option ℕ × Place) ClassErr
 constant_at pool desc kept a p = do
   _ ← need (not (is_some kept)) (AttrLength a.at)
   value ← number_at w16 p
@@ -79,13 +83,17 @@ constant_at pool desc kept a p = do
   Ok (Some value.0, value.1)
 
 -- only a static field keeps its constant
-unfoldable pub field_attribute_at : List PoolItem → MemberHead → Option ℕ → Place → Result (Option ℕ × Place) ClassErr
+unfoldable pub field_attribute_at : List PoolItem → MemberHead → Option ℕ → Place
+    → Result (Option ℕ × Place) ClassErr
 field_attribute_at pool head kept p = do
   a ← attribute_at pool p
-  if is_static head.flags && is_text_that is_constant_value pool a.0.name then constant_at pool head.desc kept a.0 a.1 else skipped_at kept a.0 a.1
+  if is_static head.flags && is_text_that is_constant_value pool a.0.name
+      then constant_at pool head.desc kept a.0 a.1
+      else skipped_at kept a.0 a.1
 
 -- a field, behind the earlier ones
-unfoldable pub field_at : List PoolItem → List FieldItem → Place → Result (FieldItem × Place) ClassErr
+unfoldable pub field_at : List PoolItem → List FieldItem → Place
+    → Result (FieldItem × Place) ClassErr
 field_at pool earlier p = do
   head ← new_head_at Field pool (field_keys earlier) p
   constant ← counted_at (field_attribute_at pool head.0) None head.1
@@ -103,7 +111,8 @@ entry_numbers_at p = do
   Ok (record { start = start.0; end = end.0; handler = handler.0; class = class.0 }, class.1)
 
 -- its class 0 stands for any (JVMS2 4.7.3)
-unfoldable pub table_item_at : List PoolItem → List TableItem → Place → Result (TableItem × Place) ClassErr
+unfoldable pub table_item_at : List PoolItem → List TableItem → Place
+    → Result (TableItem × Place) ClassErr
 table_item_at pool earlier p = do
   t ← entry_numbers_at p
   _ ← need (nat_eq t.0.class 0 || is_class_at pool t.0.class) (ItemLink (offset_of (after 6 p)))
@@ -128,26 +137,32 @@ code_contents_at pool m p = do
   Ok (record { max_stack = sizes.0.max_stack; max_locals = sizes.0.max_locals; code = code.0; table = table.0 }, others.1)
 
 -- contents that take as many bytes as their length says
-unfoldable pub code_at : List PoolItem → ℕ → AttributeHead → Place → Result (CodeItem × Place) ClassErr
+unfoldable pub code_at : List PoolItem → ℕ → AttributeHead → Place
+    → Result (CodeItem × Place) ClassErr
 code_at pool m a p = do
   code ← code_contents_at pool m p
   _ ← need (nat_eq (length p.rest) (a.len + length code.1.rest)) (AttrLength a.at)
   Ok code
 
 -- one more Code attribute of method m
-unfoldable pub another_code_at : List PoolItem → ℕ → List CodeItem → AttributeHead → Place → Result (List CodeItem × Place) ClassErr
+unfoldable pub another_code_at : List PoolItem → ℕ → List CodeItem → AttributeHead → Place
+    → Result (List CodeItem × Place) ClassErr
 another_code_at pool m codes a p = do
   code ← code_at pool m a p
   Ok (codes ++ code.0 ∷ [], code.1)
 
 -- an attribute of method m: each Code is kept, every other one is skipped
-unfoldable pub method_attribute_at : List PoolItem → ℕ → List CodeItem → Place → Result (List CodeItem × Place) ClassErr
+unfoldable pub method_attribute_at : List PoolItem → ℕ → List CodeItem → Place
+    → Result (List CodeItem × Place) ClassErr
 method_attribute_at pool m codes p = do
   a ← attribute_at pool p
-  if is_text_that is_code pool a.0.name then another_code_at pool m codes a.0 a.1 else skipped_at codes a.0 a.1
+  if is_text_that is_code pool a.0.name
+      then another_code_at pool m codes a.0 a.1
+      else skipped_at codes a.0 a.1
 
 -- a method, behind the earlier ones; its number is how many they are
-unfoldable pub method_at : List PoolItem → List MethodItem → Place → Result (MethodItem × Place) ClassErr
+unfoldable pub method_at : List PoolItem → List MethodItem → Place
+    → Result (MethodItem × Place) ClassErr
 method_at pool earlier p = do
   head ← new_head_at Method pool (method_keys earlier) p
   codes ← counted_at (method_attribute_at pool (length earlier)) [] head.1

@@ -7,4 +7,6 @@ use Rattle.class_format.specs.Members.{is_among}
 
 -- the set has exactly the ranks of these names and descriptors
 abbrev pub HasSeen : List PoolItem → BTreeSet (ℕ × ℕ) → List (ℕ × ℕ) → Type 0
-HasSeen pool seen keys = (name desc : ℕ) → contains key_cmp seen (key_ranks pool (name, desc)) ≡ is_among pool keys name desc
+HasSeen pool seen keys =
+    (name desc : ℕ)
+    → contains key_cmp seen (key_ranks pool (name, desc)) ≡ is_among pool keys name desc

@@ -20,17 +20,19 @@ use Rattle.class_format.specs.Meaning.{AreItems, FitsCode, IsHead, IsKnown, AreN
 abbrev pub has_text_that : (List ℕ → Bool) → List PoolItem → Bool
 has_text_that test pool = list_any (is_item_that test) pool
 
--- an item behind one, where `after_wide` says whether that one was wide, and whether it is wide itself
+-- an item behind one that was wide or not (`after_wide`), and whether it is wide itself
 abbrev pub Follows : PoolItem → Bool → Option Bool → Type 0
 Follows item after_wide None = (items : List PoolItem) → ¬ AreItems after_wide (item ∷ items)
-Follows item after_wide (Some wide) = (items : List PoolItem) → AreItems after_wide (item ∷ items) ↔ AreItems wide items
+Follows item after_wide (Some wide) =
+    (items : List PoolItem) → AreItems after_wide (item ∷ items) ↔ AreItems wide items
 
 -- ---- fields and methods by themselves
 
 -- a constant stands only at a static field, and needs the name of its attribute in the pool
 abbrev pub constant_passes : List PoolItem → ℕ → ℕ → Option ℕ → Bool
 constant_passes pool flags desc None = true
-constant_passes pool flags desc (Some value) = is_static flags && has_text_that is_constant_value pool && is_constant_at pool desc value
+constant_passes pool flags desc (Some value) =
+    is_static flags && has_text_that is_constant_value pool && is_constant_at pool desc value
 
 -- the index of a constant, if any, takes two bytes
 abbrev pub FitsConstant : Option ℕ → Type 0
@@ -61,14 +63,18 @@ pub record FormedMethod (pool : List PoolItem) (m : MethodItem) : Type 0 where
 -- ---- no two alike
 
 -- none is like an earlier one
-abbrev pub AreNew : {X : Type 0} → List PoolItem → (X → ℕ × ℕ) → (earlier : List X) → List X → Type 0
+abbrev pub AreNew : {X : Type 0} → List PoolItem → (X → ℕ × ℕ) → (earlier : List X) → List X
+    → Type 0
 AreNew pool key earlier [] = Unit {0}
-AreNew pool key earlier (x ∷ xs) = (is_among pool (map key earlier) (key x).0 (key x).1 ≡ false) × AreNew pool key (earlier ++ x ∷ []) xs
+AreNew pool key earlier (x ∷ xs) =
+    (is_among pool (map key earlier) (key x).0 (key x).1 ≡ false)
+    × AreNew pool key (earlier ++ x ∷ []) xs
 
 -- ---- the parts of a class file
 
 -- fields and methods, each by itself, and no two alike
-pub record FormedMembers (pool : List PoolItem) (fields : List FieldItem) (methods : List MethodItem) : Type 0 where
+pub record FormedMembers (pool : List PoolItem) (fields : List FieldItem)
+    (methods : List MethodItem) : Type 0 where
   pub field_count : length fields < 2 ^ 16
   pub method_count : length methods < 2 ^ 16
   pub formed_fields : All (FormedField pool) fields
