@@ -72,11 +72,11 @@ fn is_string_desc(text: &[u16]) -> bool
 fn is_int_desc(text: &[u16]) -> bool
     ensures { result ≡ is_int_desc text.now }
 {
-    text == [73].as_slice()
-        || text == [83].as_slice()
-        || text == [67].as_slice()
-        || text == [66].as_slice()
-        || text == [90].as_slice()
+    text == [b'I' as u16].as_slice()
+        || text == [b'S' as u16].as_slice()
+        || text == [b'C' as u16].as_slice()
+        || text == [b'B' as u16].as_slice()
+        || text == [b'Z' as u16].as_slice()
 }
 
 /// Whether a field of that descriptor may have the item as its constant (JVMS2 table 4.6).
@@ -85,9 +85,9 @@ fn is_constant(desc: &[u16], item: &PoolItem) -> bool
 {
     match item {
         PoolItem::Integer(_) => is_int_desc(desc),
-        PoolItem::Float(_) => desc == [70].as_slice(),
-        PoolItem::Long(_) => desc == [74].as_slice(),
-        PoolItem::Double(_) => desc == [68].as_slice(),
+        PoolItem::Float(_) => desc == [b'F' as u16].as_slice(),
+        PoolItem::Long(_) => desc == [b'J' as u16].as_slice(),
+        PoolItem::Double(_) => desc == [b'D' as u16].as_slice(),
         PoolItem::Text(_) => is_string_desc(desc),
         _ => false,
     }

@@ -2,6 +2,7 @@
 use Rattle.std.specs.Prelude.{ℕ, List, [], ◌∷◌, Bool, true, false, not, ◌&&◌, ◌||◌, ◌==◌, Option, position, is_some}
 use Rattle.jvm_base.specs.declared.pool.PoolItem.{PoolItem}
 use Rattle.jvm_base.specs.declared.pool.PoolItem.TheVariants.{Class, Text, Field, Method, InterfaceMethod, NameAndKind}
+use Rattle.jvm_base.specs.Letters.{array_letter}
 use Rattle.jvm_base.specs.Descriptors.{desc_of, is_method_of}
 use Rattle.constant_pool.specs.Items.{is_text_that, is_text_at, is_class_at, is_pair_that}
 
@@ -12,7 +13,7 @@ is_field_text us = is_some (desc_of us)
 -- the name of a class or interface, or the descriptor of an array class (JVMS2 4.4.1)
 abbrev pub is_class_text : List ℕ → Bool
 is_class_text [] = false
-is_class_text (u ∷ us) = not (u == 91) || is_field_text (u ∷ us)
+is_class_text (u ∷ us) = not (u == array_letter) || is_field_text (u ∷ us)
 
 -- each index in the item names an item of the needed kind. The descriptor of a field or method is
 -- one also where the pair itself stands at a higher index; no receiver counts among its slots

@@ -116,7 +116,7 @@ impl<'a> Texts<'a> {
         match text_at(self.pool, index) {
             Some(units) => match units.as_slice() {
                 [] => false,
-                [first, ..] => *first != 91 || self.is_field(index),
+                [first, ..] => *first != b'[' as u16 || self.is_field(index),
             },
             None => false,
         }
