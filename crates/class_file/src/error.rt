@@ -15,7 +15,7 @@ use thiserror::Error;
 pub enum ClassErr {
     /// The first four bytes are others than a class file's (JVMS2 4.1).
     Magic,
-    /// The major and the minor version: major isn't 45 to 48, or is above 45 with a minor one.
+    /// A version that isn't read: its major number and its minor one.
     Version(u16, u16),
     /// The next field ends past the end of the file, which has this length.
     Cut(u64),
@@ -35,7 +35,7 @@ pub enum ClassErr {
     CodeLength(u16),
     /// This method has a number of Code attributes that its flags don't allow (JVMS2 4.7.3).
     CodeCount(u16),
-    /// The field or method at this offset has the name and descriptor of an earlier one.
+    /// A second field, or a second method, of one name and one descriptor stands at this offset.
     Twice(u64),
     /// Bytes follow the class file, the first of them at this offset.
     Extra(u64),

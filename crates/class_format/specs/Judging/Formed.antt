@@ -28,7 +28,7 @@ Follows item after_wide (Some wide) =
 
 -- ---- fields and methods by themselves
 
--- a constant stands only at a static field, and needs the name of its attribute in the pool
+-- static fields alone have constants, whose attribute needs its name in the pool
 abbrev pub constant_passes : List PoolItem → ℕ → ℕ → Option ℕ → Bool
 constant_passes pool flags desc None = true
 constant_passes pool flags desc (Some value) =
