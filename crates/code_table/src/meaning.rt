@@ -12,11 +12,12 @@ ghost use Rattle.code_table.specs.Told.{told};
 
 use crate::bytes::{i1, i2, i4, u1, u2};
 use crate::error::CodeErr;
-use crate::items::{class_at, class_dimensions};
+use crate::items::class_dimensions;
 use crate::kind::{Access, Jump, Kind, Simple, Use};
 use crate::members::{on_field, on_interface, on_method};
 use crate::op::Op;
 use crate::opcode::{ICONST_0, ILOAD, ILOAD_0, ISTORE, ISTORE_0, LCONST_0};
+use constant_pool::class_at;
 use jvm_base::{Pool, PoolItem};
 use std::alloc::Global;
 
@@ -125,7 +126,7 @@ fn constant_2w(pool: &Pool, item: u16, at: u32) -> Result<Op, CodeErr>
 fn on_class(kind: Use, op: u8, pool: &Pool, item: u16, at: u32) -> Result<Op, CodeErr>
     ensures { Gives told itself result (class (use_of kind op) pool.now item at) }
 {
-    if class_at(pool, item).is_none() {
+    if class_at(pool.as_slice(), item).is_none() {
         return Err(CodeErr::BadIndex(at));
     }
     Ok(match kind {
