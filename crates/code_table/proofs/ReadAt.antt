@@ -18,6 +18,7 @@ use Rattle.jvm_base.specs.Refusing.{◌>>=◌, need, want}
 use Rattle.code_table.specs.Items.{field_desc, method_desc, interface_method_desc, class_dimensions}
 use Rattle.constant_pool.specs.Items.{class_at}
 use Rattle.code_table.specs.Forms.{Form, Alone, Byte, Short, Local, LocalAndByte, Near, Far, Constant, ConstantW, Constant2W, OnField, OnMethod, OnInterface, OnClass, ElementClass, ElementKind, Dimensions, TableSwitch as TableForm, LookupSwitch as LookupForm, Wide, LeftOut, LeftOutLocal, Unknown, size, meaning}
+use Rattle.code_table.specs.ElementKinds.{is_kind, is_left_out_kind}
 use Rattle.code_table.specs.Pooled.{loaded, loaded_2w, constant, field, method, interface_method, on_class, on_element, on_dimensions, element_kind}
 use Rattle.code_table.specs.Switches.{operands_from, targets_from, pairs_from, rise, table_switch_at, lookup_switch_at}
 use Rattle.code_table.specs.Instructions.{sized_at, wide_of, widened, wide_at, by_form, instruction_at}
@@ -91,8 +92,8 @@ constant_reads pool i at = loaded_reads (slice_get pool i) i at
 -- the kind of an element
 element_kind_reads : (op : ℕ → Op) (kind at : ℕ) → reads_op at (element_kind op kind at)
 element_kind_reads op kind at =
-    either (kind == 6 || kind == 7) _ _ (bad (LeftOutOp at) refl)
-    (either (nat_lt kind 4 || nat_lt 11 kind) _ _ (bad (BadIndex at) refl) (fine _ (any _)))
+    either (is_left_out_kind kind) _ _ (bad (LeftOutOp at) refl)
+    (either (is_kind kind) _ _ (fine _ (any _)) (bad (BadIndex at) refl))
 
 -- the class of an element
 element_reads : (o : Option ℕ) (op : Op) (at : ℕ) → reads_op at (on_element o op at)

@@ -6,11 +6,12 @@ use Rattle.jvm_base.specs.declared.pool.PoolItem.TheVariants.{Field, Method, Int
 use Rattle.jvm_base.specs.declared.desc.Desc.{Desc}
 use Rattle.jvm_base.specs.declared.desc.MethodDesc.{MethodDesc}
 use Rattle.jvm_base.specs.Descriptors.{desc_of, method_of}
+use Rattle.jvm_base.specs.Letters.{array_letter}
 use Rattle.constant_pool.specs.Items.{text_at, class_at, pair_text}
 
 -- the dimensions of the class that has this name: its leading `[`
 abbrev pub dimensions_of : List ℕ → ℕ
-dimensions_of name = length (take_while (λ u. u == 91) name)
+dimensions_of name = length (take_while (λ u. u == array_letter) name)
 
 -- the dimensions of the class at an index
 abbrev pub class_dimensions : List PoolItem → ℕ → Option ℕ

@@ -1,5 +1,6 @@
 pub mod Accepted
 pub mod Decoded
+pub mod ElementKinds
 pub mod Forms
 pub mod Instructions
 pub mod Items

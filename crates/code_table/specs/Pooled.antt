@@ -11,6 +11,7 @@ use Rattle.code_table.specs.declared.error.CodeErr.{CodeErr}
 use Rattle.code_table.specs.declared.error.CodeErr.TheVariants.{LeftOutOp, BadIndex}
 use Rattle.code_table.specs.declared.op.Op.{Op}
 use Rattle.code_table.specs.declared.op.Op.TheVariants.{Ldc, Ldc2}
+use Rattle.code_table.specs.ElementKinds.{is_kind, is_left_out_kind}
 use Rattle.code_table.specs.Numbers.{number_at}
 use Rattle.jvm_base.specs.Refusing.{◌>>=◌, need, want}
 use Rattle.code_table.specs.Items.{class_dimensions, field_desc, method_desc, interface_method_desc}
@@ -87,9 +88,9 @@ on_dimensions None n op at = Err (BadIndex at)
 abbrev pub dimensions : (ℕ → ℕ → Op) → List PoolItem → ℕ → ℕ → ℕ → Result Op CodeErr
 dimensions op pool i n at = on_dimensions (class_dimensions pool i) n (op i n) at
 
--- the kinds of an array's elements (JVMS2 6, newarray): 4 to 11, where 6 is float and 7 is double
+-- of an array of elements of a kind, where floats and doubles are left out
 abbrev pub element_kind : (ℕ → Op) → ℕ → ℕ → Result Op CodeErr
 element_kind op kind at =
-    if kind == 6 || kind == 7 then Err (LeftOutOp at)
-    else (if nat_lt kind 4 || nat_lt 11 kind then Err (BadIndex at)
-    else Ok (op kind))
+    if is_left_out_kind kind then Err (LeftOutOp at)
+    else (if is_kind kind then Ok (op kind)
+    else Err (BadIndex at))

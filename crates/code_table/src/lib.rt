@@ -4,6 +4,7 @@
 mod bytes;
 mod code;
 mod decode;
+pub mod element_kind;
 mod error;
 mod instruction;
 mod items;

@@ -11,6 +11,7 @@ ghost use Rattle.jvm_base.specs.Told.{Gives, itself};
 ghost use Rattle.code_table.specs.Told.{told};
 
 use crate::bytes::{i1, i2, i4, u1, u2};
+use crate::element_kind::{T_BOOLEAN, T_DOUBLE, T_FLOAT, T_LONG};
 use crate::error::CodeErr;
 use crate::items::class_dimensions;
 use crate::kind::{Access, Jump, Kind, Simple, Use};
@@ -148,8 +149,8 @@ fn element_kind(kind: u8, at: u32) -> Result<Op, CodeErr>
     ensures { Gives told itself result (element_kind NewArray kind at) }
 {
     match kind {
-        6 | 7 => Err(CodeErr::LeftOutOp(at)),
-        4..=11 => Ok(Op::NewArray(kind)),
+        T_FLOAT | T_DOUBLE => Err(CodeErr::LeftOutOp(at)),
+        T_BOOLEAN..=T_LONG => Ok(Op::NewArray(kind)),
         _ => Err(CodeErr::BadIndex(at)),
     }
 }
