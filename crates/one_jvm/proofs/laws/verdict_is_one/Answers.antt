@@ -2,4 +2,4 @@ use Rattle.one_jvm.proofs.OneVerdict.{one_status}
 use Rattle.one_jvm.proofs.laws.verdict_is_one.Goals as goal
 
 pub returns : goal.returns
-returns c = one_status
+returns c = record { status = one_status }
