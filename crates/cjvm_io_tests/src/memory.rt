@@ -7,8 +7,14 @@ use std::test::Fail;
 fn reads_by_name(rt: HostRuntime) -> Result<(), Fail> {
     let alloc = rt.alloc();
     let mut files = Vec::new(alloc);
-    files.push((String::from_str(alloc, "A")?, Vec::from_slice(alloc, b"one")?))?;
-    files.push((String::from_str(alloc, "A")?, Vec::from_slice(alloc, b"two")?))?;
+    files.push((
+        String::from_str(alloc, "A")?,
+        Vec::from_slice(alloc, b"one")?,
+    ))?;
+    files.push((
+        String::from_str(alloc, "A")?,
+        Vec::from_slice(alloc, b"two")?,
+    ))?;
     let mut shelf = MemShelf::new(files, Vec::from_slice(alloc, &[2])?);
     let bytes = shelf.read_file(alloc, "A", 3)?;
     assert_eq!(rt; bytes.as_slice(), b"one".as_slice());

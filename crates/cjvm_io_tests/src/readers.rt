@@ -6,6 +6,7 @@ use std::test::Fail;
 
 /// A reader of so many bytes, each 7, in pieces of at most 1,000. Each second read is interrupted, and
 /// the read of one number fails.
+#[derive(Drop)]
 struct Pieces {
     left: usize,
     reads: u32,

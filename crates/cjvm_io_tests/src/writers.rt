@@ -33,7 +33,7 @@ impl Write for Threes {
 }
 
 /// A sink over such a writer.
-fn threes(alloc: Global) -> StreamSink<Threes> {
+fn threes_sink(alloc: Global) -> StreamSink<Threes> {
     StreamSink::new(Threes {
         bytes: Vec::new(alloc),
         writes: 0,
@@ -42,14 +42,14 @@ fn threes(alloc: Global) -> StreamSink<Threes> {
 
 #[test]
 fn writes_past_interruptions(rt: HostRuntime) -> Result<(), Fail> {
-    let mut sink = threes(rt.alloc());
+    let mut sink = threes_sink(rt.alloc());
     assert_eq!(rt; sink.write(b"12345"), Ok(3));
     assert_eq!(rt; sink.write(b"45"), Ok(2));
     assert_eq!(rt; sink.write(b""), Ok(0));
     assert_eq!(rt; sink.write(b"6"), Err(Failed));
     assert_eq!(rt; sink.write(b""), Ok(0));
 
-    let mut sink = threes(rt.alloc());
+    let mut sink = threes_sink(rt.alloc());
     assert_eq!(rt; write_all(&mut sink, b"123456789"), Ok(()));
     assert_eq!(rt; write_all(&mut sink, b"0"), Err(Failed));
     Ok(())
