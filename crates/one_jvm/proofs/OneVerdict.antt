@@ -4,7 +4,7 @@ use Rattle.std.proofs.Common.{◌≡◌, ℕ, ◌<◌, ◌≤◌, List, length, 
 use Rattle.cjvm_io.specs.Shelves.{Files, bytes_under}
 use Rattle.class_file.specs.declared.error.ClassErr.{ClassErr}
 use Rattle.class_file.specs.Refused.{IsRefused}
-use Rattle.class_file.proofs.Refused.{no_class_refused}
+use Rattle.class_file.proofs.Refused.{no_class_refused, one_refusal}
 use Rattle.thin_file.specs.declared.thin.ThinCode.{ThinCode}
 use Rattle.thin_file.specs.Thin.{IsThin}
 use Rattle.thin_file.proofs.ThinClass.{is_class}
@@ -107,6 +107,10 @@ module _ {V : Type 0} (see : Option Refusal → V)
   -- the verdicts of the same files and words are seen as the same
   one_seen : (fs : Files) (words : List (List ℕ)) (v w : Option Refusal) → IsVerdict fs words v → IsVerdict fs words w → see v ≡ see w
   one_seen fs words v w p q = one_at_words fs words (see v) (see w) (at_words fs words v p) (at_words fs words w q)
+
+-- files and words have one verdict at most
+pub one_verdict : (fs : Files) (words : List (List ℕ)) (v w : Option Refusal) → IsVerdict fs words v → IsVerdict fs words w → v ≡ w
+one_verdict = one_seen (λ v. v) (λ bytes d e p q. ap (λ why. Some (File 0 why)) (one_refusal bytes d e p q))
 
 -- files and words have one status at most
 pub one_status : (fs : Files) (words : List (List ℕ)) (v w : Option Refusal) → IsVerdict fs words v → IsVerdict fs words w → status_of v ≡ status_of w

@@ -1,7 +1,6 @@
 -- Statuses and reports.
 use Rattle.std.specs.Prelude.{ℕ, codes, decimal, List, [], ◌∷◌, ◌++◌, Option, Some, None}
-use Rattle.class_file.specs.declared.error.ClassErr.{ClassErr}
-use Rattle.class_file.specs.declared.error.ClassErr.TheVariants as class
+use Rattle.class_file.specs.Reasons.{reason}
 use Rattle.one_jvm.specs.declared.outcome.Refusal.{Refusal}
 use Rattle.one_jvm.specs.declared.outcome.Refusal.TheVariants.{Usage, File, NoFile, ReadFault, WriteFault, TooLong, NotYet, NoMemory}
 
@@ -17,28 +16,12 @@ status_of (Some (TooLong k)) = 11
 status_of (Some NotYet) = 14
 status_of (Some NoMemory) = 20
 
--- why a file is no class file
-abbrev pub reason : ClassErr → List ℕ
-reason class.Magic = codes "magic"
-reason (class.Version major minor) = codes "version " ++ decimal major ++ (codes "." ++ decimal minor)
-reason (class.Cut n) = codes "cut " ++ decimal n
-reason (class.PoolTag i) = codes "pool tag " ++ decimal i
-reason (class.PoolText i) = codes "pool text " ++ decimal i
-reason (class.PoolLink i) = codes "pool link " ++ decimal i
-reason (class.ItemLink n) = codes "item link " ++ decimal n
-reason (class.Flags n) = codes "flags " ++ decimal n
-reason (class.AttrLength n) = codes "attribute length " ++ decimal n
-reason (class.CodeLength m) = codes "code length " ++ decimal m
-reason (class.CodeCount m) = codes "code count " ++ decimal m
-reason (class.Twice n) = codes "twice " ++ decimal n
-reason (class.Extra n) = codes "extra " ++ decimal n
-reason class.NoMemory = codes "want of memory"
-
 -- what is written to standard error; the name is that of the file
 abbrev pub report : List ℕ → Option Refusal → List ℕ
 report name None = []
 report name (Some Usage) = codes "cjvm: usage" ++ 10 ∷ []
-report name (Some (File k why)) = codes "cjvm: refused " ++ name ++ codes " " ++ (reason why ++ 10 ∷ [])
+report name (Some (File k why)) =
+    codes "cjvm: refused " ++ name ++ codes " " ++ (reason why ++ 10 ∷ [])
 report name (Some (NoFile k)) = codes "cjvm: no file " ++ name ++ 10 ∷ []
 report name (Some (ReadFault k)) = codes "cjvm: read fault " ++ name ++ 10 ∷ []
 report name (Some WriteFault) = codes "cjvm: write fault" ++ 10 ∷ []

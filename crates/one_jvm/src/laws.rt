@@ -6,8 +6,10 @@ ghost use Rattle.one_jvm.specs.declared.outcome.Refusal.{Refusal as Refused};
 ghost use Rattle.one_jvm.specs.Outcomes.{status_of};
 ghost use Rattle.one_jvm.specs.Verdicts.{IsVerdict};
 
-/// Files and words have one status at most.
+/// Files and words have one verdict at most, and so one status.
 pub fn verdict_is_one()
+    ensures one { (fs : Files) (words : List (List ℕ)) (v w : Option Refused)
+        → IsVerdict fs words v → IsVerdict fs words w → v ≡ w }
     ensures status { (fs : Files) (words : List (List ℕ)) (v w : Option Refused)
         → IsVerdict fs words v → IsVerdict fs words w → status_of v ≡ status_of w }
 {}

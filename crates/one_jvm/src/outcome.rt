@@ -24,7 +24,7 @@ pub enum Refusal {
     #[error("usage")]
     Usage,
     /// A file is no class file, and why. Status 3.
-    #[error("refused")]
+    #[error("refused {why}")]
     File { file: u32, why: ClassErr },
     /// There is no such file. Status 4.
     #[error("no file")]

@@ -3,7 +3,8 @@
 ghost use Rattle.std.specs.Prelude.{◌++◌, ◌∷◌, [], codes, decimal};
 ghost use Rattle.cjvm_io.specs.Faults.{HasCause};
 ghost use Rattle.cjvm_io.specs.Sinks.{GainsAll};
-ghost use Rattle.one_jvm.specs.Outcomes.{reason, report};
+ghost use Rattle.class_file.specs.Reasons.{reason};
+ghost use Rattle.one_jvm.specs.Outcomes.{report};
 
 use crate::outcome::Refusal;
 use cjvm_io::{Failed, Sink, write_all};

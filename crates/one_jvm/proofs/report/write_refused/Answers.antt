@@ -1,5 +1,5 @@
 use Rattle.std.proofs.Common.{◌++◌, ◌∷◌, [], codes}
-use Rattle.one_jvm.specs.Outcomes.{reason}
+use Rattle.class_file.specs.Reasons.{reason}
 use Rattle.cjvm_io.proofs.Gains.{gains_then, gains_front}
 use Rattle.one_jvm.proofs.report.write_refused.Goals as goal
 

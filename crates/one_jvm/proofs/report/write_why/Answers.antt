@@ -1,5 +1,5 @@
 use Rattle.std.proofs.Common.{◌∷◌, []}
-use Rattle.one_jvm.specs.Outcomes.{reason}
+use Rattle.class_file.specs.Reasons.{reason}
 use Rattle.cjvm_io.proofs.Gains.{gains_then}
 use Rattle.one_jvm.proofs.report.write_why.Goals as goal
 
