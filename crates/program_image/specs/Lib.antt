@@ -1,0 +1,4 @@
+pub mod Above
+pub mod Built
+pub mod Condition
+pub mod Program
