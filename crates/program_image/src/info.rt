@@ -6,7 +6,7 @@ use jvm_base::{Desc, Elem, List, MethodDesc, Units, Value};
 /// A field that a class declares. `place` counts from 0, for an instance field behind those of the
 /// superclass, for a static one among the statics of its class. `constant` is what a static field
 /// holds at first, where its ConstantValue says so (JVMS2 4.7.2).
-#[derive(Debug, Drop)]
+#[derive(Drop)]
 pub struct FieldInfo {
     pub owner: u32,
     pub name: Units,
@@ -18,7 +18,7 @@ pub struct FieldInfo {
 
 /// What an array class is of: an element type under 1 to 255 dimensions. `part` is the class of
 /// what one of its places holds, where that is a reference.
-#[derive(Debug, Drop)]
+#[derive(Drop)]
 pub struct ArrayInfo {
     pub dims: u8,
     pub elem: Elem,
@@ -27,7 +27,7 @@ pub struct ArrayInfo {
 
 /// A class, an interface or an array class. Classes and methods go by number; `fields` and
 /// `methods` are the declared ones in order. `clinit` is its `<clinit>` of descriptor `()V`.
-#[derive(Debug, Drop)]
+#[derive(Drop)]
 pub struct ClassInfo {
     pub name: Units,
     pub flags: u16,
@@ -40,7 +40,7 @@ pub struct ClassInfo {
 }
 
 /// What a method does: its code, the built-in step of a number, or nothing.
-#[derive(Debug, Drop)]
+#[derive(Drop)]
 pub enum Body {
     Code(Code),
     Intrinsic(u8),
@@ -48,7 +48,7 @@ pub enum Body {
 }
 
 /// A method that a class declares.
-#[derive(Debug, Drop)]
+#[derive(Drop)]
 pub struct MethodInfo {
     pub owner: u32,
     pub name: Units,
