@@ -4,6 +4,7 @@ pub mod Items
 pub mod LoopLaws
 pub mod Reach
 pub mod SearchSteps
+pub mod Searched
 pub mod Tests
 pub mod Under
 pub mod Visiting

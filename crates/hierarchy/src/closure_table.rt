@@ -4,6 +4,7 @@ ghost use Rattle.std.specs.Prelude.{◌≡◌, ◌<◌, ◌^◌, length, IfOk};
 ghost use Rattle.std.specs.Ordering.{nat_cmp};
 ghost use Rattle.std.specs.List.Sorted.{IsPermutation, IsSorted};
 ghost use Rattle.hierarchy.specs.Closure.{IsClosure};
+ghost use Rattle.hierarchy.specs.Walks.{has};
 ghost use Rattle.hierarchy.specs.Hierarchy.{IsWithin, IsRanked};
 
 use crate::walk_table::walks;
@@ -38,4 +39,12 @@ pub fn closure(
         table.push(sorted(alloc, walk.as_slice())?)?;
     }
     Ok(table)
+}
+
+/// Whether the number is one of these, which rise.
+pub fn is_among(numbers: &[u32], n: u32) -> bool
+    requires { IsSorted nat_cmp numbers.now }
+    ensures { result ≡ has numbers.now n }
+{
+    numbers.binary_search(&n).is_ok()
 }

@@ -6,7 +6,7 @@ mod ranks;
 mod upwards;
 mod walk_table;
 
-pub use closure_table::closure;
+pub use closure_table::{closure, is_among};
 pub use ranks::order;
 pub use upwards::is_on_loop;
 pub use walk_table::walks;

@@ -2,8 +2,10 @@
 //! handlers.
 #![tactic(auto)]
 
-mod image;
+mod ancestry;
 mod info;
+mod select;
+mod subclass;
 
-pub use image::Image;
 pub use info::{ArrayInfo, Body, ClassInfo, FieldInfo, MethodInfo, Target};
+pub use select::Selected;
