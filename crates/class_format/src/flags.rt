@@ -3,11 +3,11 @@
 ghost use Rattle.std.specs.Prelude.{◌≡◌};
 ghost use Rattle.class_format.specs.Flags.{has_flag, has_two_accesses, class_flags_clash, field_flags_clash, is_bound, method_flags_clash};
 
-const PUBLIC: u16 = 0x0001;
+pub const PUBLIC: u16 = 0x0001;
 
-const PRIVATE: u16 = 0x0002;
+pub const PRIVATE: u16 = 0x0002;
 
-const PROTECTED: u16 = 0x0004;
+pub const PROTECTED: u16 = 0x0004;
 
 pub const STATIC: u16 = 0x0008;
 

@@ -8,8 +8,8 @@ ghost use Rattle.class_format.specs.KnownTexts.{is_named, is_clinit, is_code, is
 use constant_pool::{item_at, text_at, units_at};
 use jvm_base::PoolItem;
 
-/// `<clinit>`
-const CLINIT: [u16; 8] = [60, 99, 108, 105, 110, 105, 116, 62];
+/// `<clinit>`, the name of class initialisers (JVMS2 3.9).
+pub const CLINIT: [u16; 8] = [60, 99, 108, 105, 110, 105, 116, 62];
 
 /// `Code`, the name of the attribute (JVMS2 4.7.3).
 pub const CODE: [u16; 4] = [67, 111, 100, 101];

@@ -12,10 +12,10 @@ mod members;
 mod version;
 
 pub use class::{ClassFile, FieldItem, MethodItem};
-pub use flags::{STATIC, class_flags_clash, has_flag};
+pub use flags::{PRIVATE, PROTECTED, PUBLIC, STATIC, class_flags_clash, has_flag};
 pub use formed::well_formed;
 pub use known_texts::{
-    CODE, CONSTANT_VALUE, is_clinit, is_code, is_constant_at, is_constant_value, is_named,
+    CLINIT, CODE, CONSTANT_VALUE, is_clinit, is_code, is_constant_at, is_constant_value, is_named,
 };
 pub use member_kind::{
     MemberHead, MemberKind, code_count, flags_clash, is_code_len, is_desc_of, is_without_receiver,
