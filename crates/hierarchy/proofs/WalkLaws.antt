@@ -63,7 +63,7 @@ pub or_else_none : {A : Type 0} (o : Option A) → or_else o None ≡ o
 or_else_none None = refl
 or_else_none (Some x) = refl
 
-or_else_assoc : {A : Type 0} (a b c : Option A) → or_else (or_else a b) c ≡ or_else a (or_else b c)
+pub or_else_assoc : {A : Type 0} (a b c : Option A) → or_else (or_else a b) c ≡ or_else a (or_else b c)
 or_else_assoc (Some x) b c = refl
 or_else_assoc None b c = refl
 

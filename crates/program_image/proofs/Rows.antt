@@ -1,11 +1,15 @@
 -- The rows of a list of classes.
-use Rattle.std.proofs.Common.{◌≡◌, ℕ, zero, suc, Bool, true, false, ◌||◌, ◌⊎◌, inl, inr, ◌<◌, List, [], ◌∷◌, ◌++◌, Option, Some, None, length, map, slice_index_or, slice_get, sym, ◌∙◌, ap, subst, refl, arith}
-use Rattle.std.specs.List.{Contains, list_any}
+use Rattle.std.proofs.Common.{◌≡◌, ℕ, zero, suc, ◌⊎◌, inl, inr, ◌<◌, List, [], ◌∷◌, Option, Some, None, length, map, slice_index_or, slice_get, sym, ◌∙◌, ap, subst, refl, arith}
+use Rattle.std.specs.List.{Contains}
 use Rattle.std.specs.Option.{option_to_list}
 use Rattle.std.proofs.lemmas.List.Elements.{Contains-append_left, Contains-append_right, Contains-get_or, All-contains}
 use Rattle.std.proofs.lemmas.List.{length-map, get_or_default}
-use Rattle.hierarchy.specs.Hierarchy.{row_of, Under, IsRanked, IsWithin}
+use Rattle.hierarchy.specs.Hierarchy.{row_of, IsRanked, IsWithin}
 use Rattle.program_image.specs.declared.info.ClassInfo.{ClassInfo}
+use Rattle.std.specs.List.{All}
+use Rattle.program_image.specs.declared.info.MethodInfo.{MethodInfo}
+use Rattle.program_image.specs.Condition.{IsClassWithin}
+use Rattle.program_image.specs.Built.Members.{AreMethodsWithin}
 use Rattle.jvm_base.specs.Words.{from}
 use Rattle.program_image.specs.Subclass.{above, all_above, part_in, part_of}
 
@@ -64,3 +68,25 @@ ranked_of cs all plain ranks ea ep r =
     let la : length (map all_above cs) ≡ length cs = length-map cs all_above in
     let lp : length (map above cs) ≡ length cs = length-map cs above in
     subst (λ z. IsRanked z ranks) (sym ep) (ranked_plain cs ranks (subst (λ z. IsRanked z ranks) ea r) (omega arith))
+
+-- what an option holds
+pub some_is : {A : Type 0} (x y : A) → Some x ≡ Some y → x ≡ y
+some_is x y e = cc
+
+-- the row of a class is what the function makes of it, where it is there
+pub row_from : {A : Type 0} (f : A → List ℕ) (xs : List A) (c : ℕ) → row_of (map f xs) c ≡ from [] f (slice_get xs c)
+row_from f [] c = refl
+row_from f (x ∷ xs) zero = refl
+row_from f (x ∷ xs) (suc c) = row_from f xs c
+
+-- there is something at each place of a list
+pub there : {A : Type 0} (xs : List A) (i : ℕ) → i < length xs → (x : A) × (slice_get xs i ≡ Some x)
+there [] i h = absurd (omega arith)
+there (x ∷ xs) zero h = (x, refl)
+there (x ∷ xs) (suc i) h = there xs i (omega arith)
+
+-- the methods that classes declare are below the count
+pub methods_within : (classes cs : List ClassInfo) (methods ms : List MethodInfo) → cs ≡ classes → ms ≡ methods → All (IsClassWithin (length classes) (length methods)) classes → AreMethodsWithin cs (length ms)
+methods_within classes cs methods ms ec em w =
+    let told : AreMethodsWithin classes (length methods) = λ k d h. (w k d h).methods_in in
+    subst (λ z. AreMethodsWithin z (length ms)) (sym ec) (subst (λ z. AreMethodsWithin classes (length z)) (sym em) told)

@@ -1,21 +1,20 @@
 -- The test of a subclass is the least relation.
-use Rattle.std.proofs.Common.{◌≡◌, ℕ, zero, suc, Bool, true, false, ◌||◌, ◌⊎◌, inl, inr, ◌<◌, ◌≤◌, ◌+◌, ◌==◌, List, [], ◌∷◌, ◌++◌, Option, Some, None, length, map, slice_index, slice_index_or, slice_get, sym, ◌∙◌, ap, subst, refl, arith}
-use Rattle.std.specs.List.{All, Contains, list_any}
-use Rattle.std.proofs.lemmas.Bool.{cases_Bool, cases_lt}
-use Rattle.std.proofs.lemmas.Bool.Decides.{nat_tests}
-use Rattle.std.proofs.lemmas.List.{get_or_default, get_or_read, get_or_past}
-use Rattle.std.proofs.lemmas.List.Elements.{Contains-get_or, All-contains}
+use Rattle.std.proofs.Common.{◌≡◌, ℕ, zero, suc, Bool, true, false, inl, inr, ◌<◌, ◌≤◌, ◌==◌, List, [], ◌∷◌, Option, Some, None, length, map, slice_index, slice_index_or, sym, ◌∙◌, ap, subst, refl, arith}
+use Rattle.std.specs.List.{Contains, list_any}
+use Rattle.std.proofs.lemmas.List.{get_or_default, get_or_read}
+use Rattle.std.proofs.lemmas.List.Elements.{Contains-get_or}
 use Rattle.std.proofs.Math.ListN.{length-map}
 use Rattle.hierarchy.specs.Hierarchy.{row_of, Under, IsRanked, IsWithin}
 use Rattle.hierarchy.specs.Hierarchy.Under.{directly, over}
 use Rattle.hierarchy.specs.Walks.{has}
-use Rattle.hierarchy.specs.Closure.{IsUpwards, IsClosure}
+use Rattle.hierarchy.specs.Closure.{IsUpwards}
 use Rattle.hierarchy.proofs.Tests.{or_split, or_left, or_right, equal_from, equal_to, any_item, any_from, not_true}
 use Rattle.hierarchy.proofs.Under.{then, above_in}
 use Rattle.program_image.specs.declared.info.ClassInfo.{ClassInfo}
 use Rattle.program_image.specs.Subclass.{above, all_above, part_of, both, IsSub, sub_by, is_sub_of}
 use Rattle.program_image.specs.Subclass.IsSub.{same, up, parts}
 use Rattle.std.proofs.Math.ListN.{get_or-map}
+use Rattle.std.specs.Prelude.{IsTrue, ◌↔◌}
 use Rattle.std.specs.Option.{option_to_list}
 use Rattle.hierarchy.proofs.LoopLaws.{has_some, has_in}
 use Rattle.program_image.specs.declared.ancestry.Ancestry.{Ancestry}
@@ -167,3 +166,7 @@ place_of_part cs a low r items k p anc inside is same_items h e =
 -- and it is the set of what lies above the class
 pub row_kept : (cs : List ClassInfo) (a : Ancestry) (low : ℕ) → IsAncestry cs a → low < length cs → IsUpwards (map above cs) low (row_of a.above low)
 row_kept cs a low anc inside = anc.closed.each low (let l : length (map above cs) ≡ length cs = length-map cs above in omega arith)
+
+-- the test tells the relation
+pub sub_told : (cs : List ClassInfo) (ranks : List ℕ) (c d : ℕ) (b : Bool) → IsRanked (map all_above cs) ranks → b ≡ is_sub_of cs c d → IsTrue b ↔ IsSub cs c d
+sub_told cs ranks c d b r e = (λ t. sub_from cs c d (sym e ∙ t), λ s. e ∙ sub_to cs ranks c d (tested cs ranks r) s)

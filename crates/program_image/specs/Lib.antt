@@ -1,3 +1,4 @@
+pub mod Buffers
 pub mod Built
 pub mod Condition
 pub mod Handlers

@@ -1,8 +1,8 @@
 -- Places in the code, and maps by them.
-use Rattle.std.specs.Prelude.{ℕ, List, [], ◌∷◌}
+use Rattle.std.specs.Prelude.{ℕ, List, [], ◌∷◌, Option}
 use Rattle.std.specs.declared.cmp.Ordering.{Ordering}
 use Rattle.std.specs.Ordering.{ordering_then, nat_cmp}
-use Rattle.jvm_base.specs.Maps.{put}
+use Rattle.jvm_base.specs.Maps.{find, put}
 use Rattle.program_image.specs.declared.info.Target.{Target}
 
 -- a method and an address
@@ -25,3 +25,7 @@ Targets = List (Place × Target)
 abbrev pub placed : Targets → List Placing → Targets
 placed targets [] = targets
 placed targets (t ∷ ts) = placed (put place_cmp (t.0, t.1) t.2 targets) ts
+
+-- the target at an address of a method
+abbrev pub target_at : Targets → ℕ → ℕ → Option Target
+target_at targets m at = find place_cmp (m, at) targets

@@ -1,14 +1,13 @@
 -- The linked program: classes, methods and targets by number.
-use Rattle.std.specs.Prelude.{ℕ, List, [], refl, Option, slice_get}
+use Rattle.std.specs.Prelude.{ℕ, List, [], refl, Option}
 use Rattle.std.specs.Coded.{Coded, code_by, coded×, coded_ℕ, coded_list}
-use Rattle.jvm_base.specs.Maps.{find}
 use Rattle.program_image.specs.declared.info.ClassInfo.{ClassInfo}
 use Rattle.program_image.specs.declared.info.MethodInfo.{MethodInfo}
 use Rattle.program_image.specs.declared.info.Target.{Target}
 use Rattle.program_image.specs.contracts.info.ClassInfo.{the_row as class_row}
 use Rattle.program_image.specs.contracts.info.MethodInfo.{the_row as method_row}
 use Rattle.program_image.specs.contracts.info.Target.{the_row as target_row}
-use Rattle.program_image.specs.Places.{place_cmp, Placing, Targets, placed}
+use Rattle.program_image.specs.Places.{Placing, Targets, placed, target_at}
 
 -- classes and methods by number, what each place in the code names, the contents of literals, and
 -- the number of the main method
@@ -25,7 +24,7 @@ program classes methods targets literals main = record { classes = classes; meth
 
 -- what the place at an address of a method names
 abbrev pub target_of : Program → ℕ → ℕ → Option Target
-target_of p m at = find place_cmp (m, at) p.targets
+target_of p m at = target_at p.targets m at
 
 -- how a program is kept
 abbrev pub program_code : Coded Program

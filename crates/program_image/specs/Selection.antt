@@ -41,7 +41,7 @@ is_instance m = not (is_static m.flags || is_clinit m.name)
 
 -- an instance method of the called one's name and descriptor
 abbrev pub is_like : List MethodInfo → ℕ → ℕ → Bool
-is_like methods called m = from false (λ x. from false (λ y. is_instance y && same_signature x y) (slice_get methods m)) (slice_get methods called)
+is_like methods called m = from false (λ x. from false (λ y. is_instance y && same_signature y x) (slice_get methods m)) (slice_get methods called)
 
 -- the method, where it is such a one
 abbrev pub like_one : List MethodInfo → ℕ → ℕ → Option ℕ

@@ -1,6 +1,6 @@
 -- Methods of one name and one descriptor (JVMS2 2.10.2).
 use Rattle.std.specs.Prelude.{ℕ, Bool, ◌==◌, ◌&&◌, List, [], nat_eq}
-use Rattle.std.specs.Option.{option_to_list}
+use Rattle.std.specs.Option.{option_eq}
 use Rattle.std.specs.Cmp.Lexicographic.{pointwise}
 use Rattle.jvm_base.specs.declared.desc.Elem.{Elem}
 use Rattle.jvm_base.specs.declared.desc.Elem.TheVariants.{Byte, Char, Double, Float, Int, Long, Short, Boolean, Object}
@@ -29,13 +29,17 @@ abbrev pub elem_name : Elem → List ℕ
 elem_name (Object name) = name
 elem_name _ = []
 
+-- the two element types are one
+abbrev pub same_elem : Elem → Elem → Bool
+same_elem a b = elem_kind a == elem_kind b && same_text (elem_name a) (elem_name b)
+
 -- the two types are one
 abbrev pub same_desc : Desc → Desc → Bool
-same_desc a b = a.dims == b.dims && (elem_kind a.elem == elem_kind b.elem && same_text (elem_name a.elem) (elem_name b.elem))
+same_desc a b = a.dims == b.dims && same_elem a.elem b.elem
 
 -- the two methods' descriptors are one
 abbrev pub same_method_desc : MethodDesc → MethodDesc → Bool
-same_method_desc a b = pointwise same_desc a.args b.args && pointwise same_desc (option_to_list a.ret) (option_to_list b.ret)
+same_method_desc a b = pointwise same_desc a.args b.args && option_eq same_desc a.ret b.ret
 
 -- the two methods have one name and one descriptor
 abbrev pub same_signature : MethodInfo → MethodInfo → Bool

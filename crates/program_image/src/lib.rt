@@ -3,9 +3,15 @@
 #![tactic(auto)]
 
 mod ancestry;
+mod handlers;
+mod image;
 mod info;
+mod members;
+mod packages;
 mod select;
+mod signs;
 mod subclass;
 
+pub use image::Image;
 pub use info::{ArrayInfo, Body, ClassInfo, FieldInfo, MethodInfo, Target};
 pub use select::Selected;

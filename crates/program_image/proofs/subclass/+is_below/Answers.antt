@@ -1,4 +1,4 @@
-use Rattle.std.proofs.Common.{◌≡◌, ℕ, ◌<◌, true, false, List, slice_index_or, sym, ◌∙◌, ap, subst, Some, slice_index, arith}
+use Rattle.std.proofs.Common.{◌≡◌, ℕ, ◌<◌, true, false, List, slice_index_or, sym, ◌∙◌, subst, Some, slice_index, arith}
 use Rattle.hierarchy.specs.Hierarchy.{row_of}
 use Rattle.hierarchy.specs.Walks.{has}
 use Rattle.program_image.specs.Subclass.{part_of, is_sub_of}

@@ -1,6 +1,5 @@
-use Rattle.std.proofs.Common.{◌≡◌, ℕ, ◌∙◌, MatchOption, map, ap, sym, subst}
+use Rattle.std.proofs.Common.{ℕ, ◌∙◌, MatchOption, sym, subst}
 use Rattle.hierarchy.specs.Hierarchy.{IsWithin, IsRanked, Under}
-use Rattle.program_image.specs.Subclass.{above, all_above}
 use Rattle.program_image.proofs.Rows.{within_plain, ranked_of}
 use Rattle.program_image.proofs.ancestry.Ancestry.new.Goals as goal
 
