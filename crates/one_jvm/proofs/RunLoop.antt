@@ -22,7 +22,7 @@ use Rattle.one_machine.specs.Start.{start}
 use Rattle.one_machine.proofs.RunLaws.{leads_none, leads_more}
 use Rattle.one_machine.proofs.Reasons.{never_dead, no_uncaught, few_steps}
 use Rattle.cjvm_io.specs.Faults.{Rose}
-use Rattle.one_jvm.specs.Runs.{IsWhole, IsPart}
+use Rattle.one_jvm.specs.Runs.{IsWhole, IsPart, GainsOutput}
 use Rattle.one_jvm.specs.declared.running.Run.{Run}
 use Rattle.one_jvm.specs.Steps.RunSteps.{IsRunOf, Writes, Breaks}
 use Rattle.cjvm_io.specs.Sinks.{GainsFront}
@@ -76,6 +76,20 @@ broken code old new before mid now f g h o b =
       gained = subst (λ (bytes : List ℕ). Appends before now bytes) (sym front) all;
     } in
     (record { last = new.machine; leads = b.0.run.leads; written = written }, omega (arith, b.1, o.later))
+
+-- no run was begun, and nothing was written
+pub unbegun : (code : ThinCode) (held : Option (List ℕ)) → GainsOutput code held held
+unfolding start
+unbegun code held = record { order = []; last = start; leads = leads_none code; written = appends_none held }
+
+-- memory ran out in a turn
+pub stopped : (code : ThinCode) (run : Run) (before mid now : Option (List ℕ)) (f g : ℕ) → GoesOn code run before mid f g → now ≡ mid → GainsOutput code before now
+stopped code run before mid now f g o e = record {
+  order = run.order;
+  last = run.machine;
+  leads = o.run.leads;
+  written = subst (λ (held : Option (List ℕ)). Appends before held run.machine.output) (sym e) o.gained;
+}
 
 -- the loop ends
 pub whole : (code : ThinCode) (run : Run) (before now : Option (List ℕ)) (f h : ℕ) → IsThinCode code → GoesOn code run before now f h → (end_of code run.machine ≡ Going → ⊥) → IsWhole code run.order before now

@@ -27,9 +27,16 @@ pub record IsPart (code : ThinCode) (order : List Choice) (before now : Option (
   pub leads : LeadsTo code order last
   pub written : GainsFront before now last.output
 
+-- the sink gained the output of some legal order
+pub record GainsOutput (code : ThinCode) (before now : Option (List ℕ)) : Type 0 where
+  pub order : List Choice
+  pub last : State
+  pub leads : LeadsTo code order last
+  pub written : Appends before now last.output
+
 -- what holds of the order and of the sink, by how the run ended
 abbrev pub RanTo : ThinCode → List Choice → Showing → Showing → Stop → Type 0
 RanTo code order before now Done = IsWhole code order before.held now.held
 RanTo code order before now WriteFault =
     IsPart code order before.held now.held × Rose before.faults now.faults
-RanTo code order before now NoMemory = order ≡ []
+RanTo code order before now NoMemory = (order ≡ []) × GainsOutput code before.held now.held

@@ -44,4 +44,4 @@ abbrev pub Turned : ThinCode → Run → Run → Showing → Showing → Result 
 Turned code old new before now (Ok u) = Writes code old new before.held now.held
 Turned code old new before now (Err WriteFault) =
     Breaks code old new before.held now.held × Rose before.faults now.faults
-Turned code old new before now (Err NoMemory) = Unit {0}
+Turned code old new before now (Err NoMemory) = now.held ≡ before.held

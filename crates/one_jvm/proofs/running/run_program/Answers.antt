@@ -1,5 +1,5 @@
-use Rattle.std.proofs.Common.{◌≡◌, true, false}
-use Rattle.one_jvm.proofs.RunLoop.{begins, turned, broken, whole}
+use Rattle.std.proofs.Common.{◌≡◌, true, false, rules}
+use Rattle.one_jvm.proofs.RunLoop.{begins, unbegun, turned, broken, whole}
 use Rattle.one_jvm.proofs.running.run_program.Goals as goal
 
 pub turns-init : goal.turns-init
@@ -13,3 +13,6 @@ returns-in-Err-WriteFault-clause-ran g c = broken c.args.code.now c.turns.run c.
 
 pub returns-clause-ran : goal.returns-clause-ran
 returns-clause-ran g c = whole c.args.code.now c.turns.run _ _ _ _ c.requires c.turns.invariant (λ h. let t : false ≡ true = c.turns-test.ensures.1 h in absurd cc)
+
+pub returns-in_default-clause-ran : goal.returns-in_default-clause-ran
+returns-in_default-clause-ran g c = (search rules, unbegun c.args.code.now (g.O.Sink.held c.args.out.now))
