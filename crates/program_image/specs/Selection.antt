@@ -3,7 +3,7 @@ use Rattle.std.specs.Prelude.{ℕ, Bool, true, false, not, ◌&&◌, ◌||◌, �
 use Rattle.std.proofs.Common.{zero, suc}
 use Rattle.std.specs.Option.{option_to_list}
 use Rattle.jvm_base.specs.Words.{from}
-use Rattle.constant_pool.specs.KnownTexts.{is_clinit}
+use Rattle.class_format.specs.KnownTexts.{is_clinit}
 use Rattle.class_format.specs.Flags.{is_public, is_private, is_protected, is_static}
 use Rattle.hierarchy.specs.Walks.{all_from, first_some}
 use Rattle.program_image.specs.declared.info.ClassInfo.{ClassInfo}

@@ -11,8 +11,7 @@ ghost use Rattle.program_image.specs.Built.Signs.{AreSigns};
 use crate::info::{ClassInfo, MethodInfo};
 use crate::packages::packages;
 use crate::signs::signs;
-use class_format::{STATIC, has_flag};
-use constant_pool::is_clinit;
+use class_format::{CLINIT, STATIC, has_flag};
 use jvm_base::{List, NoMemory};
 use std::alloc::Global;
 use std::collections::BTreeMap;
@@ -33,7 +32,7 @@ pub(crate) struct Members {
 fn is_instance(method: &MethodInfo) -> bool
     ensures { result ≡ is_instance method.now }
 {
-    !(has_flag(method.flags, STATIC) || is_clinit(method.name.as_slice()))
+    !(has_flag(method.flags, STATIC) || method.name.as_slice() == CLINIT.as_slice())
 }
 
 /// Adds a method of a class, where the class has none of its sign yet.
