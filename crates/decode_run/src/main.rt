@@ -14,7 +14,7 @@ use std::{env, fs, io};
 fn show(rt: &HostRuntime, name: &str) -> io::Result<()> {
     let bytes = fs::read(rt, name)?;
     match read_class(rt.alloc(), bytes.as_slice()) {
-        Err(error) => println!(rt; "{name}: refused, {error:?}"),
+        Err(error) => println!(rt; "{name}: refused, {error}"),
         Ok(class) => show_code(rt, name, &class),
     }
 }
