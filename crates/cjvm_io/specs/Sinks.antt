@@ -2,7 +2,7 @@
 use Rattle.std.specs.Prelude.{ℕ, ◌≤◌, List, length, take, Option, Result, MatchResult}
 use Rattle.std.specs.Io.KnownBytes.{Appends}
 
--- what a sink shows: its bytes so far, where it tells them, and how many faults struck
+-- what a sink shows: what it holds, if it tells that, and how many faults struck
 pub record Showing : Type 0 where
   pub held : Option (List ℕ)
   pub faults : ℕ

@@ -15,7 +15,7 @@ pub struct Failed;
 /// Something to which bytes are appended. A sink may tell the bytes that it holds; one over a real
 /// stream tells nothing.
 pub trait Sink {
-    /// The bytes so far, where it tells them.
+    /// The bytes that it holds, if it tells that.
     ghost held: { Self → Option (List ℕ) };
     /// How many faults struck; the count stays at the last value of a u64.
     ghost faults: { Self → ℕ };

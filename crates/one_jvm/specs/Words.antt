@@ -5,7 +5,7 @@ use Rattle.std.specs.Prelude.{◌≡◌, ℕ, Bool, false, ◌==◌, codes, map,
 abbrev pub texts : {A : Type 0} → List (String A) → List (List ℕ)
 texts words = map string_bytes words
 
--- a word of two or more characters that begins with `-` is an option's, and no file's
+-- a `-` with more behind it begins an option, and names no file
 abbrev pub is_option : List ℕ → Bool
 is_option (c ∷ d ∷ cs) = c == 45
 is_option _ = false

@@ -31,7 +31,7 @@ program_order t order = filter (λ c. c.thread == t) order
 abbrev pub any_choice : ℕ → Choice
 any_choice t = record { thread = t; pick = 0; name = no_name }
 
--- a thread's next step is enabled, whatever names are left for what it makes
+-- a thread can take a step; of names for what it makes there is no lack here
 abbrev pub can_step : ThinCode → State → ℕ → ThreadState → Bool
 can_step code m t th = not (is_none (attempt code m (any_choice t) th))
 

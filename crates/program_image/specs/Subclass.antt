@@ -23,8 +23,8 @@ all_above info = above info ++ option_to_list (part_in info)
 abbrev pub part_of : List ClassInfo → ℕ → Option ℕ
 part_of classes c = from None part_in (slice_get classes c)
 
--- the least relation that holds for equal classes, for a class and what lies above its superclass
--- or a superinterface, and for arrays by their parts
+-- The class is the other one, or what is directly above it is the other one or below that, or both are
+-- arrays whose parts are so. It is the least such relation, being a `data`.
 pub data IsSub (classes : List ClassInfo) : ℕ → ℕ → Type 0 where
   same : {c : ℕ} → IsSub classes c c
   up : {c k d : ℕ} → Contains (row_of (map above classes) c) k → IsSub classes k d → IsSub classes c d

@@ -26,7 +26,7 @@ pub struct ArrayInfo {
 }
 
 /// A class, an interface or an array class. Classes and methods go by number; `fields` and
-/// `methods` are the declared ones in order. `clinit` is its `<clinit>` of descriptor `()V`.
+/// `methods` are its own, as its file orders them. `clinit` is its `<clinit>` of descriptor `()V`.
 #[derive(Drop)]
 pub struct ClassInfo {
     pub name: Units,
