@@ -1,3 +1,4 @@
+mod Examples
 pub mod MemberLaws
 pub mod PackageLaws
 pub mod Rows
