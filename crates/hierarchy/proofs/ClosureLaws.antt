@@ -13,7 +13,7 @@ use Rattle.hierarchy.proofs.WalkLaws.{walk_unfolds, has_new}
 use Rattle.hierarchy.proofs.LoopLaws.{has_some, has_in}
 
 -- what a walk meets is where it began or lies above that
-walk_under : (n : ℕ) (rows : List (List ℕ)) (c d : ℕ) → has (walk n rows c) d ≡ true → (c ≡ d) ⊎ Under rows c d
+pub walk_under : (n : ℕ) (rows : List (List ℕ)) (c d : ℕ) → has (walk n rows c) d ≡ true → (c ≡ d) ⊎ Under rows c d
 unfolding walk
 walk_under zero rows c d e = absurd cc
 walk_under (suc n) rows c d e = elim (or_split (c == d) (has (flat_map (walk n rows) (row_of rows c)) d) e) [

@@ -2,6 +2,7 @@ pub mod ClosureLaws
 pub mod Filling
 pub mod Items
 pub mod LoopLaws
+pub mod Marking
 pub mod Reach
 pub mod SearchSteps
 pub mod Searched
