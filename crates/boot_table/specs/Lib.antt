@@ -1,0 +1,5 @@
+pub mod Rows
+pub mod Table
+pub mod Files
+pub mod Seen
+pub mod Sizes

@@ -1,0 +1,13 @@
+//! The classes that every program has: the boot classes, and which native method is which
+//! intrinsic.
+#![tactic(auto)]
+
+mod build;
+mod code;
+mod exceptions;
+mod op;
+mod pool;
+mod row;
+mod table;
+
+pub use build::boot_classes;
