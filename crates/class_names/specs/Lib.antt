@@ -1,0 +1,5 @@
+pub mod Known
+pub mod Texts
+pub mod Classes
+pub mod Named
+pub mod Seen
