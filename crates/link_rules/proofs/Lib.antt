@@ -1,0 +1,3 @@
+pub mod Firsts
+pub mod MissingLaw
+pub mod KindLaws

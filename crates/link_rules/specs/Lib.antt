@@ -1,0 +1,10 @@
+pub mod Reasons
+pub mod Answers
+pub mod Numbers
+pub mod Decoding
+pub mod Packages
+pub mod Classes
+pub mod Descriptors
+pub mod Members
+pub mod Sizes
+pub mod Walks

@@ -1,0 +1,112 @@
+//! Superclasses and interfaces are of the right kind.
+
+ghost use Rattle.std.specs.Prelude.{◌≡◌, [], ◌∷◌};
+ghost use Rattle.std.specs.List.{flat_map};
+ghost use Rattle.std.specs.Option.{option_copied};
+ghost use Rattle.class_names.specs.Classes.{super_text, interface_texts};
+ghost use Rattle.link_rules.specs.Answers.{IsAnswer, refusal};
+ghost use Rattle.link_rules.specs.Classes.{is_wrong_super, wrong_super, wrong_interface, wrong_above, final_super_named, final_super};
+ghost use Rattle.link_rules.specs.Walks.Kinds.{wrong_interface_item};
+
+use crate::error::{LinkErr, LinkWhy};
+use crate::program::{INTERFACE, Program};
+use crate::refuse::refuse_class_if;
+use class_format::{ClassFile, has_flag};
+use class_names::{class_text, is_array, is_object, super_text};
+use std::alloc::Global;
+
+const FINAL: u16 = 0x0010;
+
+fn is_wrong_super(program: &Program, file: &ClassFile, text: &[u16]) -> bool
+    ensures { result ≡ is_wrong_super program.now file.now text.now }
+{
+    is_array(text)
+        || has_flag(program.flags_of(text), INTERFACE)
+        || has_flag(file.flags, INTERFACE) && !is_object(text)
+}
+
+/// A class lies below a class, and an interface below Object.
+fn check_super(alloc: Global, program: &Program, file: &ClassFile) -> Result<(), LinkErr>
+    ensures { IsAnswer (wrong_super program.now file.now (super_text file.now)) result }
+{
+    match super_text(file) {
+        None => refuse_class_if(alloc, true, LinkWhy::WrongKind, file, &[]),
+        Some(text) => {
+            let is_wrong = is_wrong_super(program, file, text);
+            refuse_class_if(alloc, is_wrong, LinkWhy::WrongKind, file, text)
+        }
+    }
+}
+
+#[tactic(auto, unfolding(crate::specs::Walks::Kinds::wrong_interface_item))]
+fn check_interface(
+    alloc: Global,
+    program: &Program,
+    file: &ClassFile,
+    interface: u16,
+) -> Result<(), LinkErr>
+    ensures { IsAnswer (wrong_interface_item program.now file.now interface) result }
+{
+    let text = class_text(file.pool.as_slice(), interface);
+    let is_wrong = !program.names_interface(text);
+    refuse_class_if(alloc, is_wrong, LinkWhy::WrongKind, file, text)
+}
+
+#[tactic(auto, using(crate::proofs::Firsts::items_break))]
+fn check_interfaces(
+    alloc: Global,
+    program: &Program,
+    file: &ClassFile,
+    interfaces: &[u16],
+) -> Result<(), LinkErr>
+    ensures { IsAnswer (flat_map (wrong_interface_item program.now file.now) interfaces.now) result }
+{
+    for interface in interfaces {
+        check_interface(alloc, program, file, *interface)?;
+    }
+    Ok(())
+}
+
+/// The superclass and the listed interfaces are of the right kind.
+#[tactic(auto, using(crate::proofs::Firsts::answer_back, crate::proofs::KindLaws::of_interfaces))]
+fn check_above(alloc: Global, program: &Program, file: &ClassFile) -> Result<(), LinkErr>
+    ensures { IsAnswer (wrong_above program.now file.now) result }
+{
+    check_super(alloc, program, file)?;
+    check_interfaces(alloc, program, file, file.interfaces.as_slice())
+}
+
+/// The same of each file.
+#[tactic(auto, using(crate::proofs::Firsts::places_break))]
+pub fn check_kinds(alloc: Global, program: &Program, files: &[ClassFile]) -> Result<(), LinkErr>
+    ensures { IsAnswer (flat_map (wrong_above program.now) files.now) result }
+{
+    for file in files {
+        check_above(alloc, program, file)?;
+    }
+    Ok(())
+}
+
+/// The superclass isn't final.
+fn check_final(alloc: Global, program: &Program, file: &ClassFile) -> Result<(), LinkErr>
+    ensures { IsAnswer (final_super program.now file.now) result }
+{
+    match super_text(file) {
+        None => Ok(()),
+        Some(text) => {
+            let is_final = has_flag(program.flags_of(text), FINAL);
+            refuse_class_if(alloc, is_final, LinkWhy::FinalSuper, file, text)
+        }
+    }
+}
+
+/// No superclass is final.
+#[tactic(auto, using(crate::proofs::Firsts::places_break))]
+pub fn check_finals(alloc: Global, program: &Program, files: &[ClassFile]) -> Result<(), LinkErr>
+    ensures { IsAnswer (flat_map (final_super program.now) files.now) result }
+{
+    for file in files {
+        check_final(alloc, program, file)?;
+    }
+    Ok(())
+}

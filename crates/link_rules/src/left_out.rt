@@ -1,0 +1,255 @@
+//! No descriptor that is declared or that code uses has a float or a double.
+
+ghost use Rattle.std.specs.Prelude.{◌≡◌, false, map, IfOk};
+ghost use Rattle.std.specs.List.{flat_map, list_any};
+ghost use Rattle.jvm_base.specs.Descriptors.{desc_of, method_of};
+ghost use Rattle.jvm_base.specs.Words.{from};
+ghost use Rattle.class_names.specs.Texts.{text_in};
+ghost use Rattle.class_names.specs.Classes.{code_of, codes_of};
+ghost use Rattle.class_names.specs.Seen.{seen_member};
+ghost use Rattle.link_rules.specs.Answers.{IsAnswer};
+ghost use Rattle.link_rules.specs.Descriptors.{is_left_out, leaves_out, is_left_out_class, left_out_class, left_out_item, left_out_member, left_out_op, left_out_placed, left_out_entry, left_out_field, left_out_declared, left_out_body, left_out_method, left_out_desc};
+
+use crate::body::{ops, table};
+use crate::error::{LinkErr, LinkWhy};
+use crate::refuse::{refuse_class_if, refuse_member_if};
+use class_format::{ClassFile, FieldItem, MethodItem};
+use class_names::{Called, class_text, desc, is_array, member, method_desc, text};
+use code_table::{Code, Op, Placed};
+use jvm_base::{Desc, Elem, List, MethodDesc, NoMemory, TableItem};
+use std::alloc::Global;
+
+fn is_left_out(desc: &Desc) -> bool
+    ensures { result ≡ is_left_out desc.now }
+{
+    matches!(desc.elem, Elem::Float | Elem::Double)
+}
+
+fn is_one_left_out(descs: &[Desc]) -> bool
+    ensures { result ≡ list_any is_left_out descs.now }
+{
+    descs.iter().any(|desc| is_left_out(desc))
+}
+
+/// Whether a parameter or the result is left out.
+fn leaves_out(desc: &MethodDesc) -> bool
+    ensures { result ≡ leaves_out desc.now }
+{
+    if is_one_left_out(desc.args.as_slice()) {
+        return true;
+    }
+    match &desc.ret {
+        Some(ret) => is_left_out(ret),
+        None => false,
+    }
+}
+
+/// Whether the type that lies in a text is left out.
+fn is_left_out_text(alloc: Global, text: &[u16]) -> Result<bool, NoMemory>
+    ensures { IfOk result (λ b. b ≡ from false is_left_out (desc_of text.now)) }
+{
+    match desc(alloc, text)? {
+        Some(desc) => Ok(is_left_out(&desc)),
+        None => Ok(false),
+    }
+}
+
+/// Whether the text is that of an array class of floats or doubles.
+fn is_left_out_class(alloc: Global, text: &[u16]) -> Result<bool, NoMemory>
+    ensures { IfOk result (λ b. b ≡ is_left_out_class text.now) }
+{
+    if is_array(text) {
+        is_left_out_text(alloc, text)
+    } else {
+        Ok(false)
+    }
+}
+
+/// An array class isn't one of floats or doubles.
+fn check_class(alloc: Global, file: &ClassFile, text: &[u16]) -> Result<(), LinkErr>
+    ensures { IsAnswer (left_out_class file.now text.now) result }
+{
+    let is_left_out = is_left_out_class(alloc, text)?;
+    refuse_class_if(alloc, is_left_out, LinkWhy::LeftOutDesc, file, text)
+}
+
+fn check_item(alloc: Global, file: &ClassFile, item: u16) -> Result<(), LinkErr>
+    ensures { IsAnswer (left_out_item file.now item) result }
+{
+    check_class(alloc, file, class_text(file.pool.as_slice(), item))
+}
+
+/// A member that code uses: its class, then its own descriptor.
+#[tactic(auto, using(crate::proofs::Firsts::answer_back))]
+fn check_member(
+    alloc: Global,
+    file: &ClassFile,
+    member: &Called,
+    left_out: bool,
+) -> Result<(), LinkErr>
+    ensures { IsAnswer (left_out_member file.now (seen_member member.now) left_out) result }
+{
+    check_class(alloc, file, member.class)?;
+    let why = LinkWhy::LeftOutDesc;
+    refuse_member_if(alloc, left_out, why, file, member.name, member.desc)
+}
+
+fn check_op(alloc: Global, file: &ClassFile, op: &Op) -> Result<(), LinkErr>
+    ensures { IsAnswer (left_out_op file.now op.now) result }
+{
+    let pool = file.pool.as_slice();
+    match op {
+        Op::Static { item, desc, .. } | Op::Field { item, desc, .. } => {
+            check_member(alloc, file, &member(pool, *item), is_left_out(desc))
+        }
+        Op::Invoke { item, desc, .. } => {
+            check_member(alloc, file, &member(pool, *item), leaves_out(desc))
+        }
+        Op::New(item)
+        | Op::AnewArray(item)
+        | Op::Cast { item, .. }
+        | Op::MultiNewArray { item, .. } => check_item(alloc, file, *item),
+        _ => Ok(()),
+    }
+}
+
+#[tactic(auto, using(crate::proofs::Firsts::places_break))]
+fn check_ops(alloc: Global, file: &ClassFile, ops: &[Placed]) -> Result<(), LinkErr>
+    ensures { IsAnswer (flat_map (left_out_placed file.now) ops.now) result }
+{
+    for placed in ops {
+        check_op(alloc, file, &placed.op)?;
+    }
+    Ok(())
+}
+
+#[tactic(auto, unfolding(crate::specs::Descriptors::left_out_entry))]
+fn check_entry(alloc: Global, file: &ClassFile, entry: &TableItem) -> Result<(), LinkErr>
+    ensures { IsAnswer (left_out_entry file.now entry.now) result }
+{
+    if entry.class == 0 {
+        Ok(())
+    } else {
+        check_item(alloc, file, entry.class)
+    }
+}
+
+#[tactic(auto, using(crate::proofs::Firsts::items_break))]
+fn check_table(alloc: Global, file: &ClassFile, table: &[TableItem]) -> Result<(), LinkErr>
+    ensures { IsAnswer (flat_map (left_out_entry file.now) table.now) result }
+{
+    for entry in table {
+        check_entry(alloc, file, entry)?;
+    }
+    Ok(())
+}
+
+#[tactic(auto, unfolding(crate::specs::Descriptors::left_out_field))]
+fn check_field(alloc: Global, file: &ClassFile, field: &FieldItem) -> Result<(), LinkErr>
+    ensures { IsAnswer (left_out_field file.now field.now) result }
+{
+    let name = text(file.pool.as_slice(), field.name);
+    let desc = text(file.pool.as_slice(), field.desc);
+    let is_left_out = is_left_out_text(alloc, desc)?;
+    refuse_member_if(alloc, is_left_out, LinkWhy::LeftOutDesc, file, name, desc)
+}
+
+#[tactic(auto, using(crate::proofs::Firsts::items_break))]
+fn check_fields(alloc: Global, file: &ClassFile, fields: &[FieldItem]) -> Result<(), LinkErr>
+    ensures { IsAnswer (flat_map (left_out_field file.now) fields.now) result }
+{
+    for field in fields {
+        check_field(alloc, file, field)?;
+    }
+    Ok(())
+}
+
+/// Whether the declared descriptor of a method leaves a type out.
+fn leaves_out_declared(
+    alloc: Global,
+    file: &ClassFile,
+    method: &MethodItem,
+) -> Result<bool, NoMemory>
+    ensures { IfOk result (λ b. b ≡ from false leaves_out (method_of (text_in file.now.pool method.now.desc))) }
+{
+    match method_desc(alloc, file.pool.as_slice(), method.desc)? {
+        Some(desc) => Ok(leaves_out(&desc)),
+        None => Ok(false),
+    }
+}
+
+/// The descriptor that a method declares.
+#[tactic(auto, unfolding(crate::specs::Descriptors::left_out_declared))]
+fn check_declared(alloc: Global, file: &ClassFile, method: &MethodItem) -> Result<(), LinkErr>
+    ensures { IsAnswer (left_out_declared file.now method.now) result }
+{
+    let name = text(file.pool.as_slice(), method.name);
+    let desc = text(file.pool.as_slice(), method.desc);
+    let is_left_out = leaves_out_declared(alloc, file, method)?;
+    refuse_member_if(alloc, is_left_out, LinkWhy::LeftOutDesc, file, name, desc)
+}
+
+#[tactic(auto, using(crate::proofs::Firsts::answer_back))]
+fn check_body(
+    alloc: Global,
+    file: &ClassFile,
+    method: &MethodItem,
+    code: &Option<Code>,
+) -> Result<(), LinkErr>
+    requires { code.now ≡ code_of file.now.pool method.now }
+    ensures { IsAnswer (left_out_body file.now method.now) result }
+{
+    check_ops(alloc, file, ops(code))?;
+    check_table(alloc, file, table(method))
+}
+
+#[tactic(auto, using(crate::proofs::Firsts::answer_back), unfolding(crate::specs::Descriptors::left_out_method))]
+fn check_method(
+    alloc: Global,
+    file: &ClassFile,
+    method: &MethodItem,
+    code: &Option<Code>,
+) -> Result<(), LinkErr>
+    requires { code.now ≡ code_of file.now.pool method.now }
+    ensures { IsAnswer (left_out_method file.now method.now) result }
+{
+    check_declared(alloc, file, method)?;
+    check_body(alloc, file, method, code)
+}
+
+#[tactic(auto, using(crate::proofs::Firsts::places_break))]
+fn check_methods(alloc: Global, file: &ClassFile, codes: &[Option<Code>]) -> Result<(), LinkErr>
+    requires { codes.now ≡ codes_of file.now }
+    ensures { IsAnswer (flat_map (left_out_method file.now) file.now.methods) result }
+{
+    let methods = file.methods.as_slice();
+    for i in 0..methods.len() {
+        check_method(alloc, file, &methods[i], &codes[i])?;
+    }
+    Ok(())
+}
+
+#[tactic(auto, using(crate::proofs::Firsts::answer_back), unfolding(crate::specs::Descriptors::left_out_desc))]
+fn check_file(alloc: Global, file: &ClassFile, codes: &[Option<Code>]) -> Result<(), LinkErr>
+    requires { codes.now ≡ codes_of file.now }
+    ensures { IsAnswer (left_out_desc file.now) result }
+{
+    check_fields(alloc, file, file.fields.as_slice())?;
+    check_methods(alloc, file, codes)
+}
+
+/// No file has such a descriptor.
+#[tactic(auto, using(crate::proofs::Firsts::places_break))]
+pub fn check_descs(
+    alloc: Global,
+    files: &[ClassFile],
+    codes: &[List<Option<Code>>],
+) -> Result<(), LinkErr>
+    requires { codes.now ≡ map codes_of files.now }
+    ensures { IsAnswer (flat_map left_out_desc files.now) result }
+{
+    for i in 0..files.len() {
+        check_file(alloc, &files[i], codes[i].as_slice())?;
+    }
+    Ok(())
+}

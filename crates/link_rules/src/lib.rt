@@ -1,0 +1,22 @@
+//! Rules of linking on classes and what they declare, and what linking answers.
+#![tactic(auto)]
+
+mod above;
+mod body;
+mod classes;
+mod decoding;
+mod error;
+mod left_out;
+mod named;
+mod program;
+mod refuse;
+
+pub use above::{check_finals, check_kinds};
+pub use body::{ops, table};
+pub use classes::add_files;
+pub use decoding::decode_files;
+pub use error::{LinkErr, LinkWhy};
+pub use left_out::check_descs;
+pub use named::check_files;
+pub use program::{ABSTRACT, INTERFACE, NATIVE, Program};
+pub use refuse::{refuse_class_if, refuse_member_if};
