@@ -4,7 +4,11 @@ use Rattle.std.specs.Prelude.{◌==◌, if◌then◌else◌}
 use Rattle.std.specs.List.{Contains, flat_map}
 use Rattle.std.proofs.lemmas.Bool.{cases_lt, cases_eq}
 use Rattle.std.proofs.lemmas.List.Folds.{list_any-append}
-use Rattle.hierarchy.specs.Hierarchy.{row_of, Under, IsWithin}
+use Rattle.std.proofs.Common.{map, slice_index}
+use Rattle.std.specs.List.{range_with_len}
+use Rattle.std.proofs.lemmas.List.FromFn.{get_or-map-range_with_len, length-map-range_with_len}
+use Rattle.std.proofs.lemmas.List.{get_or_past}
+use Rattle.hierarchy.specs.Hierarchy.{row_of, Under, IsWithin, IsRanked}
 use Rattle.hierarchy.specs.Hierarchy.Under.{directly, over as further}
 use Rattle.hierarchy.specs.Walks.{walk, has}
 use Rattle.hierarchy.specs.Loops.{above_by, on_loop}
@@ -146,3 +150,42 @@ loop_under rows c e = over_under (length rows) rows c c e
 pub under_loop : (rows : List (List ℕ)) (c : ℕ) → IsWithin rows → Under rows c c → on_loop rows c ≡ true
 unfolding on_loop
 under_loop rows c within u = under_over rows c c within u
+
+-- how many numbers lie above a number
+pub rank_by : List (List ℕ) → ℕ → ℕ
+rank_by rows c = count_to (λ d. has (above_by (length rows) rows c) d) (length rows)
+
+-- more lie above a number than above one directly above it
+rank_falls : (rows : List (List ℕ)) (c k : ℕ) → IsWithin rows → ((d : ℕ) → Under rows d d → ⊥) → Contains (row_of rows c) k → rank_by rows k < rank_by rows c
+unfolding Sub rank_by
+rank_falls rows c k within apart w =
+    let n = length rows in
+    let p : ℕ → Bool = λ d. has (above_by n rows k) d in
+    let q : ℕ → Bool = λ d. has (above_by n rows c) d in
+    let more : Sub p q n = λ d l e. under_over rows c d within (further w (over_under n rows k d e)) in
+    elim (cases_lt (count_to p n) (count_to q n)) [
+      | inl less ↦ less
+      | inr same ↦ absurd (apart k (over_under n rows k k (count_same p q n more same k (above_in rows c k within w).1 (under_over rows c k within (directly w)))))
+    ]
+
+-- where nothing lies above itself, these are ranks
+pub there_are_ranks : (rows : List (List ℕ)) → IsWithin rows → ((d : ℕ) → Under rows d d → ⊥) → IsRanked rows (map (rank_by rows) (range_with_len 0 (length rows)))
+unfolding rank_by
+there_are_ranks rows within apart =
+    let n = length rows in
+    let ranks = map (rank_by rows) (range_with_len 0 n) in
+    let at : (c : ℕ) → c < n → slice_index ranks c ≡ rank_by rows c = λ c h. get_or-map-range_with_len (rank_by rows) 0 n c c 0 h (omega arith) in
+    let all : length ranks ≡ n = length-map-range_with_len (rank_by rows) 0 n in
+    record {
+      all = all;
+      falls = λ c k w.
+          let both = above_in rows c k within w in
+          let a = at c both.0 in
+          let b = at k both.1 in
+          let f = rank_falls rows c k within apart w in
+          omega arith;
+      most = λ c. elim (cases_lt c n) [
+        | inl h ↦ let a = at c h in let m = count_most (λ d. has (above_by n rows c) d) n in let r : rank_by rows c ≤ n = m in omega arith
+        | inr h ↦ let a : slice_index ranks c ≡ 0 = get_or_past ranks c 0 (omega arith) in omega arith
+      ];
+    }

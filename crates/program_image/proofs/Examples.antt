@@ -77,6 +77,7 @@ methods =
   where
     entry : ℕ → ℕ → ℕ → ℕ → TableItem
     entry start end handler class = record { start = start; end = end; handler = handler; class = class }
+
     guarded : Body
     guarded = Code (record { max_stack = 0; max_locals = 0; ops = []; table = entry 0 4 10 7 ∷ entry 0 8 20 8 ∷ entry 0 8 30 9 ∷ entry 4 9 40 0 ∷ [] })
 

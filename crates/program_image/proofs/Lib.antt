@@ -1,4 +1,5 @@
 mod Examples
+pub mod ImageLaws
 pub mod MemberLaws
 pub mod PackageLaws
 pub mod Rows

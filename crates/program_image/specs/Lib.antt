@@ -7,3 +7,4 @@ pub mod Program
 pub mod Selection
 pub mod Signatures
 pub mod Subclass
+pub mod Words
