@@ -4,6 +4,7 @@ pub mod Flags
 pub mod ReadAt
 pub mod Rows
 pub mod Sequencing
+pub mod Slots
 pub mod SwitchLoops
 pub mod Targeting
 pub mod Walk

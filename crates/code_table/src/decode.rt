@@ -13,6 +13,7 @@ ghost use Rattle.code_table.specs.declared.code.Placed.{Placed};
 ghost use Rattle.code_table.specs.declared.error.CodeErr.{CodeErr};
 
 use crate::code::{Code, Placed};
+use crate::descs::Descs;
 use crate::error::CodeErr;
 use crate::sequence::instructions_of;
 use crate::target::{check_table, check_targets, starts};
@@ -28,15 +29,15 @@ fn table_copy(alloc: Global, table: &[TableItem]) -> Result<List<TableItem>, NoM
 
 /// The computed answer.
 #[tactic(auto, unfolding(crate::specs::Decoded::decoded))]
-fn decoded(alloc: Global, item: &CodeItem, pool: &Pool) -> Result<Code, CodeErr>
-    ensures { Gives told itself result (decoded item.now pool.now) }
+fn decoded(alloc: Global, item: &CodeItem, descs: &Descs<'_>) -> Result<Code, CodeErr>
+    ensures { Gives told itself result (decoded item.now descs.now) }
 {
     let code = item.code.as_slice();
     let table = item.table.as_slice();
     if code.len() >= 1 << 31 || table.len() >= 1 << 32 {
         return Err(CodeErr::NoMemory);
     }
-    let ops = instructions_of(alloc, code, pool)?;
+    let ops = instructions_of(alloc, code, descs)?;
     let flags = starts(alloc, ops.as_slice(), code.len())?;
     check_targets(ops.as_slice(), flags.as_slice())?;
     check_table(table, flags.as_slice(), code.len())?;
@@ -48,10 +49,25 @@ fn decoded(alloc: Global, item: &CodeItem, pool: &Pool) -> Result<Code, CodeErr>
     })
 }
 
-/// Decodes the code of a method (JVMS2 4.8.1, 6). First each instruction is judged by itself, from
-/// address 0 on, up to one that is refused; then the jumps, then the exception table, each from its
-/// first one on. Code of 2^31 bytes or more, or with a table of 2^32 entries or more, which no class
-/// file has, is answered by `NoMemory`. Empty code has no instructions.
+/// Decodes the code of a method of the class that has this pool (JVMS2 4.8.1, 6). First each
+/// instruction is judged by itself, from address 0 on, up to one that is refused; then the jumps,
+/// then the exception table, each from its first one on. Code of 2^31 bytes or more, or with a table
+/// of 2^32 entries or more, which no class file has, is answered by `NoMemory`. Empty code has no
+/// instructions.
+pub fn decode_code_with(alloc: Global, item: &CodeItem, descs: &Descs<'_>) -> Result<Code, CodeErr>
+    ensures found { IfOk result (λ code. IsCode item.now descs.now code) }
+    ensures only { (code : Code)
+        → IsCode item.now descs.now code → Gives told itself result (Ok code) }
+    ensures refused { IfErr result (λ e. IsDue item.now descs.now e) }
+    ensures due { (e : CodeErr)
+        → IsRefused item.now descs.now e → Gives told itself result (Err e) }
+    ensures exact { Gives told itself result (decoded item.now descs.now) }
+{
+    decoded(alloc, item, descs)
+}
+
+/// Decodes the code of one method as `decode_code_with` does, and reads the descriptors of the whole
+/// pool for it: where several methods are decoded, read them once and call that.
 pub fn decode_code(alloc: Global, item: &CodeItem, pool: &Pool) -> Result<Code, CodeErr>
     ensures found { IfOk result (λ code. IsCode item.now pool.now code) }
     ensures only { (code : Code)
@@ -61,7 +77,7 @@ pub fn decode_code(alloc: Global, item: &CodeItem, pool: &Pool) -> Result<Code, 
         → IsRefused item.now pool.now e → Gives told itself result (Err e) }
     ensures exact { Gives told itself result (decoded item.now pool.now) }
 {
-    decoded(alloc, item, pool)
+    decode_code_with(alloc, item, &Descs::of(alloc, pool)?)
 }
 
 /// At most one decoded code is that of an item, and then no refusal is due; at most one is due.

@@ -11,27 +11,20 @@ ghost use Rattle.code_table.specs.Sequences.{EndsWithin};
 
 use crate::bytes::{i2, u1, u2};
 use crate::code::Placed;
+use crate::descs::Descs;
 use crate::error::CodeErr;
 use crate::kind::{Kind, kind_at, size};
 use crate::meaning::{access, meaning};
 use crate::op::Op;
 use crate::switches::{lookup_switch_at, table_switch_at};
-use jvm_base::Pool;
 use std::alloc::Global;
 
 /// The instruction at an address whose opcode tells its length.
 #[tactic(auto, using(jvm_base::proofs::Telling::fails_on), unfolding(crate::specs::Instructions::sized_at))]
-fn sized_at(
-    alloc: Global,
-    kind: Kind,
-    op: u8,
-    code: &[u8],
-    pool: &Pool,
-    at: u32,
-) -> Result<Placed, CodeErr>
+fn sized_at(kind: Kind, op: u8, code: &[u8], descs: &Descs<'_>, at: u32) -> Result<Placed, CodeErr>
     requires room { length code.now < 2 ^ 31 }
     requires here { at < length code.now }
-    ensures exact { Gives told itself result (sized_at (form_of kind op) code.now pool.now at) }
+    ensures exact { Gives told itself result (sized_at (form_of kind op) code.now descs.now at) }
     ensures within { IfOk result (λ p. EndsWithin at (length code.now) p) }
 {
     let next = at + 1 + u32::from(size(kind, op));
@@ -39,7 +32,7 @@ fn sized_at(
         return Err(CodeErr::CutOp(at));
     }
     let operands = &code[at as usize + 1..next as usize];
-    let op = meaning(alloc, kind, op, operands, pool, at)?;
+    let op = meaning(kind, op, operands, descs, at)?;
     Ok(Placed { at, next, op })
 }
 
@@ -96,12 +89,12 @@ fn by_kind(
     kind: Kind,
     op: u8,
     code: &[u8],
-    pool: &Pool,
+    descs: &Descs<'_>,
     at: u32,
 ) -> Result<Placed, CodeErr>
     requires room { length code.now < 2 ^ 31 }
     requires here { at < length code.now }
-    ensures exact { Gives told itself result (by_form (form_of kind op) code.now pool.now at) }
+    ensures exact { Gives told itself result (by_form (form_of kind op) code.now descs.now at) }
     ensures within { IfOk result (λ p. EndsWithin at (length code.now) p) }
 {
     match kind {
@@ -110,7 +103,7 @@ fn by_kind(
         Kind::TableSwitch => table_switch_at(alloc, code, at),
         Kind::LookupSwitch => lookup_switch_at(alloc, code, at),
         Kind::Wide => wide_at(code, at),
-        _ => sized_at(alloc, kind, op, code, pool, at),
+        _ => sized_at(kind, op, code, descs, at),
     }
 }
 
@@ -119,14 +112,14 @@ fn by_kind(
 pub(crate) fn instruction_at(
     alloc: Global,
     code: &[u8],
-    pool: &Pool,
+    descs: &Descs<'_>,
     at: u32,
 ) -> Result<Placed, CodeErr>
     requires room { length code.now < 2 ^ 31 }
     requires here { at < length code.now }
-    ensures exact { Gives told itself result (instruction_at code.now pool.now at) }
+    ensures exact { Gives told itself result (instruction_at code.now descs.now at) }
     ensures within { IfOk result (λ p. EndsWithin at (length code.now) p) }
 {
     let op = u1(code, at as usize);
-    by_kind(alloc, kind_at(op), op, code, pool, at)
+    by_kind(alloc, kind_at(op), op, code, descs, at)
 }

@@ -2,12 +2,13 @@
 
 ghost use Rattle.std.specs.Prelude.{◌≡◌};
 ghost use Rattle.std.specs.Option.{option_copied};
-ghost use Rattle.constant_pool.specs.Items.{pair_text};
-ghost use Rattle.code_table.specs.Items.{class_dimensions, dimensions_of, field_text, method_text};
-ghost use Rattle.code_table.specs.Items.{interface_method_text};
+ghost use Rattle.code_table.specs.Items.{class_dimensions, dimensions_of, field_desc, method_desc};
+ghost use Rattle.code_table.specs.Items.{interface_method_desc};
 
-use constant_pool::{class_at, pair_text, text_at};
-use jvm_base::{Pool, PoolItem, Units};
+use crate::descs::Descs;
+use constant_pool::{class_at, pair_desc, text_at};
+use jvm_base::{Desc, MethodDesc, Pool, PoolItem, Units};
+use shared_value::Shared;
 
 /// The dimensions of the class that has this name.
 fn dimensions_of(name: &Units) -> usize
@@ -28,32 +29,43 @@ pub(crate) fn class_dimensions(pool: &Pool, at: u16) -> Option<usize>
     Some(dimensions_of(text_at(items, name)?))
 }
 
-/// The text of the descriptor of the field at an index.
-pub(crate) fn field_text<'a>(pool: &'a Pool, at: u16) -> Option<&'a Units>
-    ensures { option_copied result ≡ field_text pool.now at }
+/// The descriptor of the field at an index.
+pub(crate) fn field_desc<'a>(descs: &'a Descs<'_>, at: u16) -> Option<&'a Shared<Desc>>
+    ensures { option_copied result ≡ field_desc descs.now at }
 {
-    match pool.get(at as usize) {
-        Some(PoolItem::Field { pair, .. }) => pair_text(pool.as_slice(), *pair),
+    match descs.pool().get(at as usize) {
+        Some(PoolItem::Field { pair, .. }) => descs.field(pair_desc(
+            descs.pool().as_slice(),
+            *pair,
+        )?),
         _ => None,
     }
 }
 
-/// The text of the descriptor of the method at an index.
-pub(crate) fn method_text<'a>(pool: &'a Pool, at: u16) -> Option<&'a Units>
-    ensures { option_copied result ≡ method_text pool.now at }
+/// The descriptor of the method at an index.
+pub(crate) fn method_desc<'a>(descs: &'a Descs<'_>, at: u16) -> Option<&'a Shared<MethodDesc>>
+    ensures { option_copied result ≡ method_desc descs.now at }
 {
-    match pool.get(at as usize) {
-        Some(PoolItem::Method { pair, .. }) => pair_text(pool.as_slice(), *pair),
+    match descs.pool().get(at as usize) {
+        Some(PoolItem::Method { pair, .. }) => descs.method(pair_desc(
+            descs.pool().as_slice(),
+            *pair,
+        )?),
         _ => None,
     }
 }
 
-/// The text of the descriptor of the interface method at an index.
-pub(crate) fn interface_method_text<'a>(pool: &'a Pool, at: u16) -> Option<&'a Units>
-    ensures { option_copied result ≡ interface_method_text pool.now at }
+/// The descriptor of the interface method at an index.
+pub(crate) fn interface_method_desc<'a>(
+    descs: &'a Descs<'_>,
+    at: u16,
+) -> Option<&'a Shared<MethodDesc>>
+    ensures { option_copied result ≡ interface_method_desc descs.now at }
 {
-    match pool.get(at as usize) {
-        Some(PoolItem::InterfaceMethod { pair, .. }) => pair_text(pool.as_slice(), *pair),
+    match descs.pool().get(at as usize) {
+        Some(PoolItem::InterfaceMethod { pair, .. }) => {
+            descs.method(pair_desc(descs.pool().as_slice(), *pair)?)
+        }
         _ => None,
     }
 }

@@ -4,6 +4,7 @@
 mod bytes;
 mod code;
 mod decode;
+mod descs;
 pub mod element_kind;
 mod error;
 mod instruction;
@@ -18,7 +19,10 @@ mod switches;
 mod target;
 
 pub use code::{Code, Placed};
-pub use decode::{decode_code, one_answer, one_cover, one_instruction, target_is_sum};
+pub use decode::{
+    decode_code, decode_code_with, one_answer, one_cover, one_instruction, target_is_sum,
+};
+pub use descs::Descs;
 pub use error::CodeErr;
 pub use kind::one_row;
 pub use op::Op;

@@ -11,6 +11,7 @@ ghost use Rattle.jvm_base.specs.Told.{Gives, itself};
 ghost use Rattle.code_table.specs.Told.{told};
 
 use crate::bytes::{i1, i2, i4, u1, u2};
+use crate::descs::Descs;
 use crate::element_kind::{T_BOOLEAN, T_DOUBLE, T_FLOAT, T_LONG};
 use crate::error::CodeErr;
 use crate::items::class_dimensions;
@@ -20,7 +21,6 @@ use crate::op::Op;
 use crate::opcode::{ICONST_0, ILOAD, ILOAD_0, ISTORE, ISTORE_0, LCONST_0};
 use constant_pool::class_at;
 use jvm_base::{Pool, PoolItem};
-use std::alloc::Global;
 
 /// The local of a short form, of which the first opcode of its kind is given.
 fn short_local(op: u8, first: u8) -> u16
@@ -166,16 +166,16 @@ fn dimensions(pool: &Pool, item: u16, dims: u8, at: u32) -> Result<Op, CodeErr>
 
 /// The instruction with these operands; a kind without a number of operands has none.
 pub(crate) fn meaning(
-    alloc: Global,
     kind: Kind,
     op: u8,
     operands: &[u8],
-    pool: &Pool,
+    descs: &Descs<'_>,
     at: u32,
 ) -> Result<Op, CodeErr>
     requires { size (form_of kind op) ≤ length operands.now }
-    ensures { Gives told itself result (meaning (form_of kind op) operands.now pool.now at) }
+    ensures { Gives told itself result (meaning (form_of kind op) operands.now descs.now at) }
 {
+    let pool = descs.pool();
     match kind {
         Kind::Alone(kind) => Ok(simple(kind, op)),
         Kind::Byte => Ok(Op::Push(i32::from(i1(operands, 0)))),
@@ -190,9 +190,9 @@ pub(crate) fn meaning(
         Kind::Constant => constant(pool, u16::from(u1(operands, 0)), at),
         Kind::ConstantW => constant(pool, u2(operands, 0), at),
         Kind::Constant2W => constant_2w(pool, u2(operands, 0), at),
-        Kind::OnField(kind) => on_field(alloc, kind, op, pool, u2(operands, 0), at),
-        Kind::OnMethod => on_method(alloc, op, pool, u2(operands, 0), at),
-        Kind::OnInterface => on_interface(alloc, op, operands, pool, at),
+        Kind::OnField(kind) => on_field(kind, op, descs, u2(operands, 0), at),
+        Kind::OnMethod => on_method(op, descs, u2(operands, 0), at),
+        Kind::OnInterface => on_interface(op, operands, descs, at),
         Kind::OnClass(kind) => on_class(kind, op, pool, u2(operands, 0), at),
         Kind::ElementClass => element_class(pool, u2(operands, 0), at),
         Kind::ElementKind => element_kind(u1(operands, 0), at),

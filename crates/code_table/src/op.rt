@@ -1,12 +1,14 @@
 //! Instructions.
 
 use jvm_base::{Desc, List, MethodDesc};
+use shared_value::Shared;
 
 /// An instruction. A `u8` is its opcode, where a short form and one behind `wide` have that of the
 /// plain form; `NewArray` holds the number of its element kind instead (JVMS2 6, newarray), and
 /// `dims` counts dimensions. A `u16` is an index of the pool or, as `local`, of a local variable.
 /// `to` and `other` are addresses, where `other` is the default's. A member's descriptor stands
-/// beside its index, so that no pool is needed to know the operands.
+/// beside its index, so that no pool is needed to know the operands; all instructions of a class
+/// that name one descriptor share it.
 #[derive(Drop)]
 pub enum Op {
     Nop,
@@ -71,17 +73,17 @@ pub enum Op {
     Static {
         op: u8,
         item: u16,
-        desc: Desc,
+        desc: Shared<Desc>,
     },
     Field {
         op: u8,
         item: u16,
-        desc: Desc,
+        desc: Shared<Desc>,
     },
     Invoke {
         op: u8,
         item: u16,
-        desc: MethodDesc,
+        desc: Shared<MethodDesc>,
     },
     New(u16),
     NewArray(u8),

@@ -90,12 +90,12 @@ fn numbers(op: &Op) -> [Option<i64>; 3] {
         Op::Static { op, item, desc } | Op::Field { op, item, desc } => [
             Some(i64::from(*op)),
             Some(i64::from(*item)),
-            Some(i64::from(desc.dims)),
+            Some(i64::from(desc.get().dims)),
         ],
         Op::Invoke { op, item, desc } => [
             Some(i64::from(*op)),
             Some(i64::from(*item)),
-            i64::try_from(desc.args.len()).ok(),
+            i64::try_from(desc.get().args.len()).ok(),
         ],
         Op::Cast { op, item } => two(*op, *item),
         Op::MultiNewArray { item, dims } => two(*item, *dims),
