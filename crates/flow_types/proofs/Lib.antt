@@ -1,0 +1,10 @@
+pub mod Supers
+pub mod TreeLaws
+pub mod CommonLaws
+pub mod TypeLaws
+pub mod JoinLaws
+pub mod RankLaws
+pub mod Rooted
+pub mod Lists
+pub mod ListLaws
+pub mod FrameLaws

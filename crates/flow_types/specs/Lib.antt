@@ -1,0 +1,7 @@
+pub mod Primitives
+pub mod Tree
+pub mod Types
+pub mod TypeRank
+pub mod TypeLists
+pub mod Frames
+pub mod FrameRank

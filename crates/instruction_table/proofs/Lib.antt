@@ -1,0 +1,9 @@
+pub mod LowestLaws
+pub mod Beginning
+pub mod Stacks
+pub mod Takes
+pub mod Listing
+pub mod FitLists
+pub mod NeedLaws
+pub mod RowLaws
+pub mod KeptLaws

@@ -1,0 +1,12 @@
+-- The lowest of the rules that are broken.
+use Rattle.std.specs.Prelude.{ℕ, min, List, [], ◌∷◌, Option, Some, None}
+
+abbrev pub lower : Option ℕ → Option ℕ → Option ℕ
+lower None b = b
+lower (Some a) None = Some a
+lower (Some a) (Some b) = Some (min a b)
+
+-- None where no rule is broken
+abbrev pub lowest : List ℕ → Option ℕ
+lowest [] = None
+lowest (r ∷ rs) = lower (Some r) (lowest rs)
