@@ -11,9 +11,11 @@ use Rattle.boot_table.specs.declared.exceptions.BootException.{BootException}
 use Rattle.boot_table.specs.Table.{exception_of, public, supers, is_abstract}
 use Rattle.boot_table.specs.Rows.{Row, Field, Method, Code, Member, Instruction as of, Instruction}
 
+-- what a reference names
 abbrev pub seen_reference : Reference → Member
 seen_reference r = record { class = r.class.now; name = r.name.now; desc = r.desc.now }
 
+-- an instruction
 abbrev pub seen_op : BootOp → Instruction
 seen_op Aload0 = of.Aload0
 seen_op Aload1 = of.Aload1
@@ -25,15 +27,19 @@ seen_op (Invokespecial r) = of.Invokespecial (seen_reference r)
 seen_op (Invokeinterface r) = of.Invokeinterface (seen_reference r)
 seen_op (Ifnull n) = of.Ifnull n
 
+-- a code
 abbrev pub seen_code : BootCode → Code
 seen_code c = record { max_stack = c.max_stack; max_locals = c.max_locals; ops = map seen_op c.ops.now }
 
+-- a field
 abbrev pub seen_field : BootField → Field
 seen_field f = record { flags = f.flags; name = f.name.now; desc = f.desc.now }
 
+-- a method
 abbrev pub seen_method : BootMethod → Method
 seen_method m = record { flags = m.flags; name = m.name.now; desc = m.desc.now; code = option_map seen_code m.code }
 
+-- a class
 abbrev pub seen : BootClass → Row
 seen c = record {
   name = c.name.now;
@@ -44,5 +50,6 @@ seen c = record {
   methods = map seen_method c.methods.now;
 }
 
+-- an exception, of which only names are kept
 abbrev pub seen_exception : BootException → Row
 seen_exception e = exception_of (if e.is_abstract then public + supers + is_abstract else public + supers) e.name.now e.above.now

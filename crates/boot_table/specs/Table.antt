@@ -5,42 +5,53 @@ use Rattle.boot_table.specs.Rows.Instruction.{Aload0, Aload1, Areturn, Return, G
 
 -- ---- flags (JVMS2 tables 4.1, 4.4, 4.5)
 
+-- ACC_PUBLIC
 abbrev pub public : ℕ
 public = 1
 
+-- ACC_PRIVATE
 abbrev pub private : ℕ
 private = 2
 
+-- ACC_STATIC
 abbrev pub static : ℕ
 static = 8
 
+-- ACC_FINAL
 abbrev pub final : ℕ
 final = 16
 
--- of a class: invokespecial treats superclasses' methods as JVMS2 6 says
+-- ACC_SUPER, of a class: invokespecial treats superclasses' methods as JVMS2 6 says
 abbrev pub supers : ℕ
 supers = 32
 
+-- ACC_NATIVE
 abbrev pub native : ℕ
 native = 256
 
+-- ACC_INTERFACE
 abbrev pub interface : ℕ
 interface = 512
 
+-- ACC_ABSTRACT
 abbrev pub is_abstract : ℕ
 is_abstract = 1024
 
 -- ---- names
 
+-- the class at the top
 abbrev pub object : List ℕ
 object = codes "java/lang/Object"
 
+-- the class of threads
 abbrev pub thread : List ℕ
 thread = codes "java/lang/Thread"
 
+-- the class of what is thrown
 abbrev pub throwable : List ℕ
 throwable = codes "java/lang/Throwable"
 
+-- the interface of what a thread runs
 abbrev pub runnable : List ℕ
 runnable = codes "java/lang/Runnable"
 
@@ -90,12 +101,15 @@ init_storing desc field =
 
 -- ---- fields that code uses
 
+-- the text of what is thrown
 abbrev pub message : Member
 message = record { class = throwable; name = codes "message"; desc = codes "Ljava/lang/String;" }
 
+-- what a thread runs
 abbrev pub target : Member
 target = record { class = thread; name = codes "target"; desc = codes "Ljava/lang/Runnable;" }
 
+-- such a field as its class declares it
 abbrev pub private_field : Member → Field
 private_field m = record { flags = private; name = m.name; desc = m.desc }
 
@@ -123,9 +137,11 @@ exception_of flags name above = record {
   methods = init above ∷ init_text above ∷ [];
 }
 
+-- an exception, by its name and its superclass
 abbrev pub exception : List ℕ → List ℕ → Row
 exception name above = exception_of (public + supers) name above
 
+-- the classes below java/lang/Throwable
 unfoldable pub exceptions : List Row
 exceptions =
     exception (codes "java/lang/Exception") throwable
