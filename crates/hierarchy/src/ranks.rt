@@ -16,7 +16,11 @@ fn visit(rows: &[List<u32>], marks: &mut [u32], last: u32, c: u32) -> Result<u32
     requires open { Leads rows.now marks.old c }
     requires done { AreDone rows.now marks.old last }
     requires room { last + unseen marks.old < 2 ^ 32 }
-    ensures { MatchResult result (λ next. AreDone rows.now marks.new next × Grew marks.old marks.new × (2 ≤ slice_index marks.new c) × (last ≤ next) × (next + unseen marks.new ≤ last + unseen marks.old)) (λ x. Under rows.now x x) }
+    ensures { MatchResult result
+        (λ next. AreDone rows.now marks.new next × Grew marks.old marks.new
+        × (2 ≤ slice_index marks.new c) × (last ≤ next)
+        × (next + unseen marks.new ≤ last + unseen marks.old))
+        (λ x. Under rows.now x x) }
 {
     marks[c as usize] = 1;
     let mut next = last;
@@ -34,11 +38,14 @@ fn visit(rows: &[List<u32>], marks: &mut [u32], last: u32, c: u32) -> Result<u32
     Ok(next)
 }
 
-/// For each number one that is above those of the numbers above it, or None where a number lies above itself.
+/// For each number a rank that is above those of the numbers above it, or None where a number lies
+/// above itself.
 pub fn order(alloc: Global, rows: &[List<u32>]) -> Result<Option<List<u32>>, NoMemory>
     requires within { IsWithin rows.now }
     requires few { length rows.now < 2 ^ 25 }
-    ensures { IfOk result (λ o. MatchOption o ((c : ℕ) × Under rows.now c c) (λ ranks. IsRanked rows.now ranks)) }
+    ensures { IfOk result (λ o. MatchOption o
+        ((c : ℕ) × Under rows.now c c)
+        (λ ranks. IsRanked rows.now ranks)) }
 {
     let mut marks: Vec<u32> = vec![in alloc; 0; rows.len()]?;
     let mut last = 1;

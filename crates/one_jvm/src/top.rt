@@ -92,9 +92,10 @@ fn close<E: Sink>(err: &mut E, name: &str, refusal: Option<Refusal>) -> Option<R
     }
 }
 
-/// Does what the words say: `run FILE` reads a class file from the shelf and runs it. Its output goes to
-/// `out` burst by burst; at the end `err` gets a report, which is empty where the status is 0. `words` are those after the program's name. What a shelf or a sink holds is claimed
-/// only where it tells it.
+/// Does what the words say: `run FILE` reads a class file from the shelf and runs it. Its output
+/// goes to `out` burst by burst; at the end `err` gets a report, which is empty where the status is
+/// 0. `words` are those after the program's name. What a shelf or a sink holds is claimed only where
+/// it tells it.
 pub fn cjvm<S: Shelf, O: Sink, E: Sink>(
     alloc: Global,
     words: &[String],
