@@ -9,7 +9,7 @@ use Rattle.one_machine.specs.State.{State}
 use Rattle.one_machine.specs.declared.state.Choice.{Choice}
 use Rattle.one_machine.specs.Step.{step}
 use Rattle.one_machine.specs.Sound.{IsSound}
-use Rattle.one_machine.specs.Acts.{steps_of}
+use Rattle.one_machine.specs.Steps.Acts.{steps_of}
 use Rattle.one_machine.specs.Runs.{LeadsTo, end_of}
 use Rattle.std.proofs.lemmas.List.{length-append}
 use Rattle.std.proofs.Math.Seq.{take-append-add}

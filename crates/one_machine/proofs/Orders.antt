@@ -13,7 +13,7 @@ use Rattle.one_machine.specs.Start.{start}
 use Rattle.one_machine.specs.Step.{step, reason}
 use Rattle.one_machine.specs.Runs.{run}
 use Rattle.one_machine.specs.Refusals.{end_at}
-use Rattle.one_machine.specs.Acts.{steps_of, state_after}
+use Rattle.one_machine.specs.Steps.Acts.{steps_of, state_after}
 use Rattle.one_machine.specs.Sound.{Stage, Untouched, Initialising, Ready, At, Returned, Over, thread_at, left, IsSound}
 use Rattle.one_machine.specs.LawStatements.{NeverDead, TakesFourMore}
 use Rattle.one_machine.proofs.LawProofs.{step_or_reason}

@@ -24,7 +24,7 @@ use Rattle.one_machine.specs.State.{State}
 use Rattle.one_machine.specs.Step.{step}
 use Rattle.one_machine.specs.Runs.{any_choice}
 use Rattle.one_machine.specs.Program.{op_at}
-use Rattle.one_machine.specs.Acts.{arith as arith_of, op_act, act_of, state_after, first_locals, CanAct, IsGoing, Grows}
+use Rattle.one_machine.specs.Steps.Acts.{arith as arith_of, op_act, act_of, state_after, first_locals, CanAct, IsGoing, Grows}
 use Rattle.one_machine.specs.Serve.{printed}
 use Rattle.one_machine.specs.Sound.{Stage, Untouched, Initialising, Ready, At, Returned, Over, state_at, IsOf, AreOf, Reaches, Fits, left, IsSound}
 use Rattle.one_machine.proofs.Steps.{begins, initialises, enters, ends, pushes, adds, subtracts, multiplies, gets, prints, returns}

@@ -33,7 +33,7 @@ use Rattle.one_machine.specs.Serve.{serve, reading, get, ends, pick_fits, name_f
 use Rattle.one_machine.specs.Step.{Taken, who, taken, served, performed, asked, planned, by_mode, attempt, granted, step_of, step, reason, reason_thread, reason_taken, moved_on}
 use Rattle.one_machine.specs.Refusals.{refusal_of, end_at}
 use Rattle.one_machine.specs.Runs.{any_choice, some_can, end_of}
-use Rattle.one_machine.specs.Acts.{IsGoing, steps_of}
+use Rattle.one_machine.specs.Steps.Acts.{IsGoing, steps_of}
 use Rattle.one_machine.specs.Sound.{mode_at, thread_at, IsSound}
 use Rattle.one_machine.proofs.Progress.{moves}
 

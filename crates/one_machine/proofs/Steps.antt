@@ -13,7 +13,7 @@ use Rattle.one_machine.specs.Serve.{serve, printed}
 use Rattle.one_machine.specs.Complete.{complete}
 use Rattle.one_machine.specs.Step.{served, attempt, moved_on, step}
 use Rattle.one_machine.specs.Start.{start_heap}
-use Rattle.one_machine.specs.Acts.{first_locals}
+use Rattle.one_machine.specs.Steps.Acts.{first_locals}
 use Rattle.one_machine.specs.Runs.{any_choice}
 use Rattle.one_machine.specs.Program.{op_at}
 use Rattle.one_machine.specs.Sound.{Stage, Untouched, Initialising, Ready, At, Returned, Over, state_at}

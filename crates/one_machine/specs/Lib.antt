@@ -1,4 +1,4 @@
-pub mod Acts
+pub mod Steps
 pub mod Numbers
 pub mod Program
 pub mod State

@@ -2,7 +2,7 @@
 
 ghost use Rattle.std.specs.Prelude.{◌≡◌, Some};
 ghost use Rattle.thin_file.specs.Thin.{IsThinCode};
-ghost use Rattle.one_machine.specs.Acts.{arith, op_act, level_act, act_in, entry_act};
+ghost use Rattle.one_machine.specs.Steps.Acts.{arith, op_act, level_act, act_in, entry_act};
 ghost use Rattle.std.specs.Option.{option_copied};
 
 use crate::program::STREAM;

@@ -12,9 +12,9 @@ ghost use Rattle.std.specs.Option.{option_copied};
 ghost use Rattle.one_machine.specs.Sound.{IsSound};
 ghost use Rattle.one_machine.specs.Next.{number_line};
 ghost use Rattle.one_machine.specs.Serve.{printed};
-ghost use Rattle.one_machine.specs.Acts.{act_of, state_after, with_level, without_level, with_answer};
-ghost use Rattle.one_machine.specs.Acts.{with_end, with_line, with_class, begun, first_frame};
-ghost use Rattle.one_machine.specs.Acts.{HasThread, TakesFrom, CanAct, IsGoing, Grows};
+ghost use Rattle.one_machine.specs.Steps.Acts.{act_of, state_after, with_level, without_level, with_answer};
+ghost use Rattle.one_machine.specs.Steps.Acts.{with_end, with_line, with_class, begun, first_frame};
+ghost use Rattle.one_machine.specs.Steps.Acts.{HasThread, TakesFrom, CanAct, IsGoing, Grows};
 
 use crate::act::{Act, thread_act};
 use crate::program::{ARGUMENTS, MAIN_CLASS, MAIN_METHOD, MAIN_THREAD, NO_NAME};

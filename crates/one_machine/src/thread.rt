@@ -3,7 +3,7 @@
 ghost use Rattle.std.specs.Prelude.{◌≡◌, ◌+◌, ◌<◌, ◌^◌, ◌∷◌, None, OnOk, OnErr};
 ghost use Rattle.jvm_base.specs.Tops.{below, TopTakes};
 ghost use Rattle.one_machine.specs.declared.state.Mode.TheVariants.{Running};
-ghost use Rattle.one_machine.specs.Acts.{stepped, thread_answered, CanCount};
+ghost use Rattle.one_machine.specs.Steps.Acts.{stepped, thread_answered, CanCount};
 
 use crate::state::{Mode, ThreadState};
 use jvm_base::{Level, NoMemory, Value};

@@ -12,7 +12,7 @@ use Rattle.thin_file.specs.declared.thin.ThinOp.{ThinOp}
 use Rattle.thin_file.specs.declared.thin.ThinCode.{ThinCode}
 use Rattle.class_format.specs.Meaning.{AreBytes}
 use Rattle.thin_file.specs.Thin.{Written, Iconst, Bipush, Sipush, Iadd, Isub, Imul, Getstatic, Invokevirtual, Returns, written_bytes, meaning, is_walk, IsThinCode, IsCodeOf, tail_bytes, IsThin}
-use Rattle.thin_file.specs.ThinReading.{code_with, ops_of, parts_of, code_of, thin_of}
+use Rattle.thin_file.specs.Steps.ThinReading.{code_with, ops_of, parts_of, code_of, thin_of}
 use Rattle.class_format.proofs.Bytes.{AreBytes-drop}
 use Rattle.thin_file.proofs.ThinWritten.{ops_take, ops_again}
 use Rattle.thin_file.proofs.ThinParts.{equal, same, parts, IsTail, parts_take, parts_again}

@@ -3,7 +3,7 @@ use Rattle.std.proofs.Common.{◌≡◌, ℕ, zero, suc, ◌+◌, ◌<◌, ◌�
 use Rattle.std.specs.Prelude.{option_map, ◌==◌}
 use Rattle.jvm_base.specs.Words.{from}
 use Rattle.thin_file.specs.declared.thin.ThinOp.{ThinOp}
-use Rattle.thin_file.specs.ThinReading.{short_op, wide_op, longer_op, first_op, front, ops_within, ops_of}
+use Rattle.thin_file.specs.Steps.ThinReading.{short_op, wide_op, longer_op, first_op, front, ops_within, ops_of}
 
 -- the instructions so far and those of the rest
 abbrev pub with_front : List ThinOp → Option (List ThinOp) → Option (List ThinOp)

@@ -9,7 +9,7 @@ use Rattle.std.proofs.lemmas.Nat.{be_bytes_2, from_be_bytes-to_be_bytes_2}
 use Rattle.jvm_base.proofs.Options.{chosen, and_parts, some_is}
 use Rattle.class_format.specs.Meaning.{AreBytes}
 use Rattle.thin_file.specs.Thin.{tail_bytes}
-use Rattle.thin_file.specs.ThinReading.{is_tail, parts_of}
+use Rattle.thin_file.specs.Steps.ThinReading.{is_tail, parts_of}
 use Rattle.class_format.proofs.Bytes.{AreBytes-drop, AreBytes-take}
 
 -- what is behind n bytes: m bytes and what is behind them

@@ -13,7 +13,7 @@ use Rattle.thin_file.specs.declared.thin.ThinOp.TheVariants.{Push, Add, Sub, Mul
 use Rattle.class_format.specs.Meaning.{AreBytes}
 use Rattle.thin_file.specs.Thin.{Written, Iconst, Bipush, Sipush, Iadd, Isub, Imul, Getstatic, Invokevirtual, Returns, IsWritten, written_bytes, meaning}
 use Rattle.thin_file.specs.Opcodes.{iconst_m1, iconst_0, iconst_5, bipush, sipush, iadd, isub, imul, return_void, getstatic, invokevirtual, out_item, println_item}
-use Rattle.thin_file.specs.ThinReading.{short_op, wide_op, longer_op, first_op, front, ops_within, ops_of}
+use Rattle.thin_file.specs.Steps.ThinReading.{short_op, wide_op, longer_op, first_op, front, ops_within, ops_of}
 use Rattle.class_format.proofs.Bytes.{AreBytes-behind}
 use Rattle.thin_file.proofs.ThinOps.{first_is}
 

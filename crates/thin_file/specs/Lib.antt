@@ -1,4 +1,4 @@
 pub mod Head
 pub mod Opcodes
 pub mod Thin
-pub mod ThinReading
+pub mod Steps

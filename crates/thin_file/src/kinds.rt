@@ -2,7 +2,7 @@
 
 ghost use Rattle.std.specs.Prelude.{◌≡◌, [], ◌∷◌, length, Some, None, IfSome, IfNone, OnOk, IfOk};
 ghost use Rattle.thin_file.specs.Thin.{two_wholes, kinds_after, is_end, is_walk};
-ghost use Rattle.thin_file.specs.ThinReading.{Applies};
+ghost use Rattle.thin_file.specs.Steps.ThinReading.{Applies};
 
 use crate::thin::ThinOp;
 use jvm_base::NoMemory;

@@ -2,8 +2,8 @@
 
 ghost use Rattle.std.specs.Prelude.{◌≡◌, option_map, IfOk};
 ghost use Rattle.thin_file.specs.Thin.{IsThin, IsReadAs};
-ghost use Rattle.thin_file.specs.ThinReading.{short_op, wide_op, longer_op, first_op};
-ghost use Rattle.thin_file.specs.ThinReading.{ops_of, parts_of, code_of, thin_of};
+ghost use Rattle.thin_file.specs.Steps.ThinReading.{short_op, wide_op, longer_op, first_op};
+ghost use Rattle.thin_file.specs.Steps.ThinReading.{ops_of, parts_of, code_of, thin_of};
 
 use crate::kinds::is_walk;
 use jvm_base::{List, NoMemory};
@@ -88,7 +88,7 @@ const OUT_ITEM: u8 = 13;
 
 const PRINTLN_ITEM: u8 = 19;
 
-#[tactic(auto, unfolding(crate::specs::ThinReading::short_op))]
+#[tactic(auto, unfolding(crate::specs::Steps::ThinReading::short_op))]
 fn short_op(opcode: u8) -> Option<ThinOp>
     ensures { result ≡ short_op opcode }
 {
@@ -102,7 +102,7 @@ fn short_op(opcode: u8) -> Option<ThinOp>
     }
 }
 
-#[tactic(auto, unfolding(crate::specs::ThinReading::wide_op))]
+#[tactic(auto, unfolding(crate::specs::Steps::ThinReading::wide_op))]
 fn wide_op(opcode: u8, a: u8, b: u8) -> Option<ThinOp>
     ensures { result ≡ wide_op opcode a b }
 {
@@ -118,7 +118,7 @@ fn wide_op(opcode: u8, a: u8, b: u8) -> Option<ThinOp>
     None
 }
 
-#[tactic(auto, unfolding(crate::specs::ThinReading::longer_op))]
+#[tactic(auto, unfolding(crate::specs::Steps::ThinReading::longer_op))]
 fn longer_op(opcode: u8, rest: &[u8]) -> Option<(ThinOp, &[u8])>
     ensures { option_map (λ x. (x.0, x.1.now)) result ≡ longer_op opcode rest.now }
 {
@@ -136,7 +136,7 @@ fn longer_op(opcode: u8, rest: &[u8]) -> Option<(ThinOp, &[u8])>
 }
 
 /// The first instruction, and the bytes after it.
-#[tactic(auto, unfolding(crate::specs::ThinReading::first_op))]
+#[tactic(auto, unfolding(crate::specs::Steps::ThinReading::first_op))]
 fn first_op(bytes: &[u8]) -> Option<(ThinOp, &[u8])>
     ensures { option_map (λ x. (x.0, x.1.now)) result ≡ first_op bytes.now }
 {
@@ -166,7 +166,7 @@ fn ops(alloc: Global, bytes: &[u8]) -> Result<Option<List<ThinOp>>, NoMemory>
 }
 
 /// max_stack, max_locals and the code, from the bytes behind the head.
-#[tactic(auto, unfolding(crate::specs::ThinReading::parts_of))]
+#[tactic(auto, unfolding(crate::specs::Steps::ThinReading::parts_of))]
 fn parts(tail: &[u8]) -> Option<(u16, u16, &[u8])>
     ensures { option_map (λ x. (x.0, x.1, x.2.now)) result ≡ parts_of tail.now }
 {
@@ -187,7 +187,7 @@ fn parts(tail: &[u8]) -> Option<(u16, u16, &[u8])>
 }
 
 /// The code of these parts, or `None` where it isn't a thin file's.
-#[tactic(auto, unfolding(crate::specs::ThinReading::code_of))]
+#[tactic(auto, unfolding(crate::specs::Steps::ThinReading::code_of))]
 fn code(
     alloc: Global,
     max_stack: u16,
@@ -213,7 +213,7 @@ fn code(
 }
 
 /// The code of a thin file, or `None` where the bytes are none.
-#[tactic(auto, unfolding(crate::specs::ThinReading::thin_of))]
+#[tactic(auto, unfolding(crate::specs::Steps::ThinReading::thin_of))]
 fn thin(alloc: Global, bytes: &[u8]) -> Result<Option<ThinCode>, NoMemory>
     ensures { IfOk result (λ it. it ≡ thin_of bytes.now) }
 {

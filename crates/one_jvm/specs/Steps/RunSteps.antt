@@ -2,7 +2,7 @@
 use Rattle.std.specs.Prelude.{◌≡◌, ℕ, ◌<◌, ◌++◌, List, length, Option, Result, Ok, Err}
 use Rattle.std.specs.Io.KnownBytes.{Appends}
 use Rattle.thin_file.specs.declared.thin.ThinCode.{ThinCode}
-use Rattle.one_machine.specs.Acts.{steps_of}
+use Rattle.one_machine.specs.Steps.Acts.{steps_of}
 use Rattle.one_machine.specs.Sound.{IsSound}
 use Rattle.one_machine.specs.Runs.{LeadsTo}
 use Rattle.one_jvm.specs.declared.running.Broken.{Broken}

@@ -1,5 +1,5 @@
 use Rattle.std.proofs.Common.{arith}
-use Rattle.thin_file.specs.ThinReading.{ops_of}
+use Rattle.thin_file.specs.Steps.ThinReading.{ops_of}
 use Rattle.thin_file.proofs.ThinOps.{goes_on, falls, stops, is_done}
 use Rattle.thin_file.proofs.thin.ops.Goals as goal
 

@@ -1,5 +1,5 @@
 use Rattle.std.proofs.Common.{◌≡◌, length}
-use Rattle.thin_file.specs.ThinReading.{ops_of}
+use Rattle.thin_file.specs.Steps.ThinReading.{ops_of}
 use Rattle.thin_file.proofs.ThinOps.{with_front}
 use Rattle.thin_file.proofs.thin.ops.Given as goal
 

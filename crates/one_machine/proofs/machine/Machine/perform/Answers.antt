@@ -1,6 +1,6 @@
 use Rattle.std.proofs.Common.{sym, ◌∙◌, subst}
 use Rattle.one_machine.specs.declared.act.Act.{Act}
-use Rattle.one_machine.specs.Acts.{CanAct}
+use Rattle.one_machine.specs.Steps.Acts.{CanAct}
 use Rattle.one_machine.proofs.Progress.{moves, taken_step, taken_sound, taken_grows}
 use Rattle.one_machine.proofs.machine.Machine.perform.Goals as goal
 
