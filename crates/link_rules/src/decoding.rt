@@ -9,8 +9,8 @@ ghost use Rattle.link_rules.specs.Sizes.{HasFewMethods};
 
 use crate::error::LinkErr;
 use class_format::{ClassFile, MethodItem};
-use code_table::{Code, CodeErr, decode_code};
-use jvm_base::{List, Pool};
+use code_table::{Code, CodeErr, Descs, decode_code_with};
+use jvm_base::List;
 use std::alloc::Global;
 
 /// The code of a method, by the places of its file and of the method.
@@ -18,16 +18,16 @@ fn decode_method(
     alloc: Global,
     class: u32,
     method: u32,
-    pool: &Pool,
+    descs: &Descs<'_>,
     item: &MethodItem,
 ) -> Result<Option<Code>, LinkErr>
-    ensures answer { IsAnswer (undecoded class method pool.now item.now.code) result }
-    ensures code { IfOk result (λ code. code ≡ code_of pool.now item.now) }
+    ensures answer { IsAnswer (undecoded class method descs.now item.now.code) result }
+    ensures code { IfOk result (λ code. code ≡ code_of descs.now item.now) }
 {
     let Some(code) = &item.code else {
         return Ok(None);
     };
-    match decode_code(alloc, code, pool) {
+    match decode_code_with(alloc, code, descs) {
         Ok(code) => Ok(Some(code)),
         Err(CodeErr::NoMemory) => Err(LinkErr::NoMemory),
         Err(why) => Err(LinkErr::Code { class, method, why }),
@@ -41,11 +41,12 @@ fn decode_file(alloc: Global, class: u32, file: &ClassFile) -> Result<List<Optio
     ensures answer { IsAnswer (undecoded_file class file.now) result }
     ensures codes { IfOk result (λ codes. codes ≡ codes_of file.now) }
 {
+    let descs = Descs::of(alloc, &file.pool)?;
     let mut codes = List::new(alloc);
     let mut number = 0;
     let methods = file.methods.as_slice();
     for method in methods {
-        codes.push(decode_method(alloc, class, number, &file.pool, method)?)?;
+        codes.push(decode_method(alloc, class, number, &descs, method)?)?;
         number += 1;
     }
     Ok(codes)

@@ -100,10 +100,10 @@ fn check_op(alloc: Global, file: &ClassFile, op: &Op) -> Result<(), LinkErr>
     let pool = file.pool.as_slice();
     match op {
         Op::Static { item, desc, .. } | Op::Field { item, desc, .. } => {
-            check_member(alloc, file, &member(pool, *item), is_left_out(desc))
+            check_member(alloc, file, &member(pool, *item), is_left_out(desc.get()))
         }
         Op::Invoke { item, desc, .. } => {
-            check_member(alloc, file, &member(pool, *item), leaves_out(desc))
+            check_member(alloc, file, &member(pool, *item), leaves_out(desc.get()))
         }
         Op::New(item)
         | Op::AnewArray(item)

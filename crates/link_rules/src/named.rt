@@ -108,11 +108,11 @@ fn check_op(alloc: Global, names: &Names, file: &ClassFile, op: &Op) -> Result<(
     match op {
         Op::Static { item, desc, .. } | Op::Field { item, desc, .. } => {
             check_text(alloc, names, file, member(pool, *item).class)?;
-            check_desc(alloc, names, file, desc)
+            check_desc(alloc, names, file, desc.get())
         }
         Op::Invoke { item, desc, .. } => {
             check_text(alloc, names, file, member(pool, *item).class)?;
-            check_method_desc(alloc, names, file, desc)
+            check_method_desc(alloc, names, file, desc.get())
         }
         Op::New(item)
         | Op::AnewArray(item)
