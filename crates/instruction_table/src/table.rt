@@ -397,14 +397,15 @@ pub fn row_of(alloc: Global, image: &Image, method: u32, at: u32, op: &Op) -> Re
         } => acts(alloc, &[Need::Int], Gives::Nothing),
         Op::LookupSwitch { other: _, pairs: _ } => acts(alloc, &[Need::Int], Gives::Nothing),
         Op::Return(op) => return_row(alloc, *op, result_of(image, method)),
-        Op::Static { op, item: _, desc } => static_row(alloc, *op, desc_type(image, desc)),
+        Op::Static { op, item: _, desc } => static_row(alloc, *op, desc_type(image, desc.get())),
         Op::Field { op, item: _, desc } => {
             let class = field_class_at(image, method, at);
-            field_row(alloc, image, *op, desc_type(image, desc), class)
+            field_row(alloc, image, *op, desc_type(image, desc.get()), class)
         }
         Op::Invoke { op, item: _, desc } => {
+            let owner = owner_of(image, method);
             let named = method_at(image, method, at);
-            invoke_row(alloc, image, owner_of(image, method), *op, desc, named)
+            invoke_row(alloc, image, owner, *op, desc.get(), named)
         }
         Op::New(_) => acts(alloc, &[], Gives::One(FlowType::Fresh(at))),
         Op::NewArray(kind) => {
