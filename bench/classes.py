@@ -9,9 +9,10 @@ def text(word):
     return b"\x01" + struct.pack(">H", len(word)) + word
 
 
-def class_file(texts, fields=(), methods=()):
-    """A class file whose texts have the indices from 5 on."""
+def class_file(texts, fields=(), methods=(), items=()):
+    """A class file whose texts have the indices from 5 on, and behind them these items of its pool."""
     pool = [text(b"A"), b"\x07\x00\x01", text(b"Code"), text(b"I")] + [text(word) for word in texts]
+    pool.extend(items)
     parts = [b"\xca\xfe\xba\xbe\x00\x00\x00\x2e", struct.pack(">H", len(pool) + 1), *pool]
     parts.append(struct.pack(">HHHH", 0x21, 2, 0, 0))
     for members in (fields, methods):

@@ -22,6 +22,15 @@ def repeated(code, count):
     return class_file(names, methods=[method(6 + i, 5, code) for i in range(count)])
 
 
+def calls(count, each, size):
+    """A class with so many methods of so many calls each, all of one descriptor of so many bytes."""
+    texts = [b"()V", b"(L" + b"a" * (size - 5) + b";)V"] + [b"%04x" % i for i in range(count)]
+    pair = 5 + len(texts)
+    items = [struct.pack(">BHH", 12, 7, 6), struct.pack(">BHH", 10, 2, pair)]
+    code = struct.pack(">BH", 184, pair + 1) * each + RETURN
+    return class_file(texts, methods=[method(7 + i, 5, code) for i in range(count)], items=items)
+
+
 def plain(size):
     """Loads, arithmetic and a branch back to the start, again and again."""
     part = b"\x1a\x1b\x60\x3b\x1a\x10\x40\xa4\xff\xf8"
@@ -60,6 +69,8 @@ KINDS = (
     ("one method, jumps", lambda size: one(jumps(size)), (655, 6553, 65535)),
     ("one tableswitch", lambda size: one(table_switch(size)), (655, 6553, 65535)),
     ("one lookupswitch", lambda size: one(lookup_switch(size)), (655, 6553, 65535)),
+    ("one method, calls", lambda size: calls(1, (size - 1) // 3, size), (655, 6553, 65535)),
+    ("methods of one call", lambda count: calls(count, 1, 3 * count), (200, 2000, 20000)),
     ("full tableswitches", lambda count: repeated(table_switch(65535), count), (1, 4, 15)),
 )
 

@@ -6,9 +6,8 @@ ghost use Rattle.code_table.specs.Told.{told};
 ghost use Rattle.std.specs.Option.{unwrap_or};
 ghost use Rattle.decode_run.specs.Counts.{instructions_of, one_if, most, IsCounted, IsRefusedAt};
 
-use class_file::{ClassFile, MethodItem};
-use code_table::{CodeErr, decode_code};
-use jvm_base::Pool;
+use class_file::MethodItem;
+use code_table::{CodeErr, Descs, decode_code_with};
 use std::alloc::Global;
 
 /// How many methods have code, and how many instructions all of it is. Each is `usize::MAX` where it
@@ -43,12 +42,16 @@ impl Counts {
 }
 
 /// How many instructions the code of a method has, if it has code.
-fn instructions(alloc: Global, method: &MethodItem, pool: &Pool) -> Result<Option<usize>, CodeErr>
-    ensures { Gives told itself result (instructions_of pool.now method.now.code) }
+fn instructions(
+    alloc: Global,
+    method: &MethodItem,
+    descs: &Descs<'_>,
+) -> Result<Option<usize>, CodeErr>
+    ensures { Gives told itself result (instructions_of descs.now method.now.code) }
 {
     match &method.code {
         Some(item) => {
-            let code = decode_code(alloc, item, pool)?;
+            let code = decode_code_with(alloc, item, descs)?;
             Ok(Some(code.ops.len()))
         }
         None => Ok(None),
@@ -56,17 +59,20 @@ fn instructions(alloc: Global, method: &MethodItem, pool: &Pool) -> Result<Optio
 }
 
 /// Decodes the code of each method and counts it.
-pub(crate) fn count_all(alloc: Global, class: &ClassFile) -> Result<Counts, Refused>
-    ensures counted { IfOk result (IsCounted class.now.pool class.now.methods) }
-    ensures refused { IfErr result (IsRefusedAt class.now.pool class.now.methods) }
+pub(crate) fn count_all(
+    alloc: Global,
+    methods: &[MethodItem],
+    descs: &Descs<'_>,
+) -> Result<Counts, Refused>
+    ensures counted { IfOk result (IsCounted descs.now methods.now) }
+    ensures refused { IfErr result (IsRefusedAt descs.now methods.now) }
 {
-    let methods = class.methods.as_slice();
     let mut counts = Counts {
         methods: 0,
         instructions: 0,
     };
     for at in 0..methods.len() {
-        match instructions(alloc, &methods[at], &class.pool) {
+        match instructions(alloc, &methods[at], descs) {
             Ok(count) => counts = counts.with(count),
             Err(why) => return Err(Refused { method: at, why }),
         }

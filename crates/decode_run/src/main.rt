@@ -6,7 +6,8 @@
 mod counts;
 
 use crate::counts::{Counts, Refused, count_all};
-use class_file::{ClassFile, read_class};
+use class_file::{ClassFile, MethodItem, read_class};
+use code_table::Descs;
 use std::process::ExitCode;
 use std::{env, fs, io};
 
@@ -20,7 +21,19 @@ fn show(rt: &HostRuntime, name: &str) -> io::Result<()> {
 }
 
 fn show_code(rt: &HostRuntime, name: &str, class: &ClassFile) -> io::Result<()> {
-    match count_all(rt.alloc(), class) {
+    match Descs::of(rt.alloc(), &class.pool) {
+        Err(error) => println!(rt; "{name}: refused, {error}"),
+        Ok(descs) => show_counts(rt, name, class.methods.as_slice(), &descs),
+    }
+}
+
+fn show_counts(
+    rt: &HostRuntime,
+    name: &str,
+    methods: &[MethodItem],
+    descs: &Descs<'_>,
+) -> io::Result<()> {
+    match count_all(rt.alloc(), methods, descs) {
         Err(Refused { method, why }) => println!(rt; "{name}: method {method} refused, {why}"),
         Ok(
             Counts {

@@ -3,4 +3,4 @@ use Rattle.decode_run.specs.Counts.{IsCounted}
 use Rattle.decode_run.proofs.counts.count_all.Given as goal
 
 abbrev pub invariant-loop-at : goal.invariant-loop-at
-invariant-loop-at l = IsCounted l.class.pool (take l.at l.methods) l.counts
+invariant-loop-at l = IsCounted l.descs (take l.at l.methods) l.counts
