@@ -1,4 +1,5 @@
--- The rules on a small program. The answers are those that a Java machine gives for it.
+-- The rules on a small program. A Java machine gave the answers on selection across packages, some on
+-- arrays and one on a handler; the others follow from the rules.
 use Rattle.std.proofs.Common.{◌≡◌, ℕ, Bool, true, false, List, [], ◌∷◌, ◌++◌, map, Option, Some, None, refl}
 use Rattle.std.specs.Prelude.{codes}
 use Rattle.jvm_base.specs.declared.desc.Elem.{Elem}
