@@ -30,7 +30,7 @@ elem_names _ = []
 abbrev pub desc_names : Desc → List (List ℕ)
 desc_names d = elem_names d.elem
 
--- the classes in a method's descriptor, from left to right, the result last
+-- the classes in a method's descriptor: those of the parameters in order, then that of the result
 abbrev pub method_desc_names : MethodDesc → List (List ℕ)
 method_desc_names m = flat_map desc_names m.args ++ flat_map desc_names (option_to_list m.ret)
 

@@ -20,7 +20,7 @@ pub enum LinkWhy {
     WrongKind,
     /// The superclass is final.
     FinalSuper,
-    /// The class is its own superclass or superinterface.
+    /// The class lies above itself.
     SuperLoop,
     /// A descriptor has a float or a double.
     LeftOutDesc,
