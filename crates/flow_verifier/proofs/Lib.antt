@@ -1,0 +1,9 @@
+pub mod Rules
+pub mod Fitting
+pub mod Places
+pub mod GivenLaws
+pub mod Worklist
+pub mod PotentialLaws
+pub mod Ways
+pub mod Turns
+pub mod Verdict

@@ -1,0 +1,49 @@
+-- One way from an instruction, as the code goes it.
+use Rattle.std.proofs.Common.{refl, slice_set, ◌∙◌, sym, ap, ◌≡◌, subst, ℕ, ◌+◌, ◌<◌, ◌≤◌, List, length, slice_get, Option, Some, Result, Ok, Err, add-one, arith}
+use Rattle.std.specs.Prelude.{OnOk}
+use Rattle.flow_types.specs.Tree.{superclasses, IsTree}
+use Rattle.program_image.specs.Program.{Program}
+use Rattle.flow_types.specs.declared.flow_frame.FlowFrame.{FlowFrame}
+use Rattle.flow_verifier.specs.declared.method.Method.{Method}
+use Rattle.flow_verifier.specs.declared.method.Edge.{Edge}
+use Rattle.flow_verifier.specs.declared.method.Edge.TheVariants.{Next, Caught}
+use Rattle.flow_verifier.specs.Methods.{ops_of, IsMethod}
+use Rattle.flow_verifier.specs.Given.{given, target, edges}
+use Rattle.flow_verifier.proofs.GivenLaws.{given-frame, IsEdge, edge-is}
+use Rattle.flow_verifier.specs.Typing.{frame_at, FitsPlace}
+use Rattle.flow_verifier.specs.Going.{In, IsPartly}
+use Rattle.flow_verifier.specs.Flowing.{Flows, merged, waits}
+use Rattle.flow_verifier.specs.Potential.{potential}
+use Rattle.flow_verifier.proofs.Worklist.{flow, partly-step}
+use Rattle.flow_verifier.proofs.PotentialLaws.{flow-falls}
+
+pub on_ok : {T E : Type 0} (r : Result T E) (P Q : Type 0) → OnOk r P → (P → Q) → OnOk r Q
+on_ok (Ok x) P Q h f = f h
+on_ok (Err e) P Q h f = tt
+
+target-inside : (supers : List (Option ℕ)) (n : ℕ) (e : Edge) → IsEdge supers n e → target e < n
+target-inside supers n (Next to) h = h
+target-inside supers n (Caught to class) h = h.0
+
+-- a rise of what is flagged
+pub waits-from : (supers : List (Option ℕ)) (g n : FlowFrame) (to : ℕ) (old : Option FlowFrame) (fs gs : List (Option FlowFrame)) (todo : List ℕ) → frame_at fs to ≡ old → (n ≡ merged supers old g) × (FitsPlace supers g old → ⊥) → gs ≡ slice_set fs to (Some n) → In to todo → Flows supers g to fs todo gs todo
+waits-from supers g n to old fs gs todo e h f i =
+    let k : n ≡ merged supers (frame_at fs to) g = h.0 ∙ ap (λ z. merged supers z g) (sym e) in
+    waits (λ q. (h.1) (subst (λ z. FitsPlace supers g z) e q)) (f ∙ ap (λ z. slice_set fs to (Some z)) k) refl i
+
+pub flows-at : (supers : List (Option ℕ)) (g h : FlowFrame) (to at : ℕ) (fs gs : List (Option FlowFrame)) (todo more : List ℕ) → g ≡ h → to ≡ at → Flows supers g to fs todo gs more → Flows supers h at fs todo gs more
+flows-at supers g h to at fs gs todo more e f w = subst (λ z. Flows supers z at fs todo gs more) e (subst (λ z. Flows supers g z fs todo gs more) f w)
+
+module _ (program : Program) (tree : IsTree (superclasses program)) (m : Method) (im : IsMethod program m) where
+  pub edge-target : (at j : ℕ) (f : FlowFrame) (e : Edge) (fs : List (Option FlowFrame)) (todo : List ℕ) → IsPartly program m at f j fs todo → slice_get (edges program m at) j ≡ Some e → target e < length fs
+  edge-target at j f e fs todo p i =
+      let a : target e < length (ops_of program m.number) = target-inside (superclasses program) (length (ops_of program m.number)) e (edge-is program tree m im at j e i) in
+      let b : length fs ≡ length (ops_of program m.number) = p.under.assignment.long in omega arith
+
+  pub edge-step : (at j : ℕ) (f : FlowFrame) (e : Edge) (fs gs : List (Option FlowFrame)) (todo more : List ℕ) → IsPartly program m at f j fs todo → slice_get (edges program m at) j ≡ Some e → Flows (superclasses program) (given program m at f e) (target e) fs todo gs more → IsPartly program m at f (j + 1) gs more
+  edge-step at j f e fs gs todo more p i w =
+      rw add-one (partly-step program tree m im at j f e fs gs todo more p i (flow program tree m im (given program m at f e) (target e) fs todo gs more (edge-target at j f e fs todo p i) p.under.assignment (given-frame program tree m im at f e p.frame (edge-is program tree m im at j e i)) w))
+
+  pub edge-falls : (at j : ℕ) (f : FlowFrame) (e : Edge) (fs gs : List (Option FlowFrame)) (todo more : List ℕ) → IsPartly program m at f j fs todo → slice_get (edges program m at) j ≡ Some e → Flows (superclasses program) (given program m at f e) (target e) fs todo gs more → (w : ℕ → ℕ) → potential program m w gs more ≤ potential program m w fs todo
+  edge-falls at j f e fs gs todo more p i d w =
+      flow-falls program tree m im w (given program m at f e) (target e) fs todo gs more (edge-target at j f e fs todo p i) p.under.assignment (given-frame program tree m im at f e p.frame (edge-is program tree m im at j e i)) d

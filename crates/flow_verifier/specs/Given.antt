@@ -1,0 +1,121 @@
+-- What an instruction gives to those after it, and the rules that it breaks.
+use Rattle.std.specs.Prelude.{ℕ, ◌+◌, ◌==◌, nat_lt, nat_le, Bool, false, not, ◌&&◌, if◌then◌else◌, List, [], ◌∷◌, ◌++◌, length, map, filter, reverse, slice_get, Option, Some, None}
+use Rattle.std.specs.List.{list_any}
+use Rattle.jvm_base.specs.Words.{from}
+use Rattle.code_table.specs.declared.code.Placed.{Placed}
+use Rattle.program_image.specs.Program.{Program}
+use Rattle.flow_types.specs.Tree.{superclasses, is_below}
+use Rattle.flow_types.specs.Frames.{clash_frame, frame_of}
+use Rattle.flow_types.specs.declared.flow_type.FlowType.{FlowType}
+use Rattle.flow_types.specs.declared.flow_type.FlowType.TheVariants.{Class}
+use Rattle.flow_types.specs.declared.flow_frame.FlowFrame.{FlowFrame}
+use Rattle.instruction_table.specs.LowestRule.{lowest}
+use Rattle.instruction_table.specs.Rows.{row, jumps, falls, throwable}
+use Rattle.instruction_table.specs.Working.{site_of, slots, is_empty, row_rules, next}
+use Rattle.instruction_table.specs.declared.row.Row.{Row}
+use Rattle.instruction_table.specs.declared.work.Work.{Work}
+use Rattle.instruction_table.specs.declared.rule.TheConstants as rule
+use Rattle.flow_verifier.specs.Methods.{ops_of, place_of}
+use Rattle.flow_verifier.specs.declared.method.Handler.{Handler}
+use Rattle.flow_verifier.specs.declared.method.Edge.{Edge}
+use Rattle.flow_verifier.specs.declared.method.Edge.TheVariants.{Next, Caught}
+use Rattle.flow_verifier.specs.declared.method.Method.{Method}
+
+-- a frame at work has its newest operand first
+abbrev pub work_of : FlowFrame → Work
+work_of f = record { locals = f.locals; stack = reverse f.stack; fresh = f.fresh }
+
+abbrev pub frame_of_work : Work → FlowFrame
+frame_of_work w = frame_of w.locals (reverse w.stack) w.fresh
+
+-- ---- rules
+
+abbrev pub depth_rules : ℕ → List FlowType → List ℕ
+depth_rules max ts = if nat_lt max (slots ts) then rule.TOO_DEEP ∷ [] else []
+
+-- an operand is missing, which is the lowest rule that a row can break
+abbrev pub is_missing : List ℕ → Bool
+is_missing rules = from false (λ r. r == rule.MISSING) (lowest rules)
+
+-- the depth after is defined where no operand is missing
+abbrev pub after_rules : ℕ → List ℕ → List FlowType → List ℕ
+after_rules max rules ts = if is_missing rules then [] else depth_rules max ts
+
+abbrev pub last_rules : Bool → List ℕ
+last_rules past = if past then rule.PAST_THE_END ∷ [] else []
+
+abbrev pub row_at : Program → Method → Placed → Row
+row_at p m o = row p m.number o.at o.op
+
+abbrev pub is_past : Program → Method → ℕ → Placed → Bool
+is_past p m i o = falls o.op && (i + 1 == length (ops_of p m.number))
+
+abbrev pub op_rules : Program → Method → ℕ → Placed → Work → List ℕ
+op_rules p m i o w = depth_rules m.max_stack w.stack
+    ++ (row_rules (site_of p m.number) (row_at p m o) w
+    ++ (after_rules m.max_stack (row_rules (site_of p m.number) (row_at p m o) w) (next (site_of p m.number) (row_at p m o) w).stack
+    ++ last_rules (is_past p m i o)))
+
+-- a handler at the place catches what isn't thrown
+abbrev pub is_bad_at : Program → ℕ → Handler → Bool
+is_bad_at p i h = h.to == i && not (is_below (superclasses p) h.class throwable)
+
+-- rules that are broken whatever the frame: too few locals for the parameters, or a bad handler
+abbrev pub place_rules : Program → Method → ℕ → List ℕ
+place_rules p m i = (if i == 0 && m.crowded then rule.NO_LOCAL ∷ [] else []) ++ (if list_any (is_bad_at p i) m.handlers then rule.HANDLER ∷ [] else [])
+
+abbrev pub rules_there : Program → Method → ℕ → Option Placed → Work → List ℕ
+rules_there p m i None w = []
+rules_there p m i (Some o) w = op_rules p m i o w
+
+abbrev pub open_rules : Program → Method → ℕ → FlowFrame → List ℕ
+open_rules p m i f = place_rules p m i ++ rules_there p m i (slice_get (ops_of p m.number) i) (work_of f)
+
+-- the rules that the instruction at a place breaks in a frame
+unfoldable pub broken : Program → Method → ℕ → FlowFrame → List ℕ
+broken p m i f = if f.clash then rule.CLASH ∷ [] else open_rules p m i f
+
+-- ---- what flows
+
+abbrev pub next_there : Program → Method → Option Placed → Work → Work
+next_there p m None w = w
+next_there p m (Some o) w = next (site_of p m.number) (row_at p m o) w
+
+-- an instruction that breaks a rule gives the clash frame
+abbrev pub frame_after : Program → Method → ℕ → FlowFrame → FlowFrame
+frame_after p m i f = if is_empty (open_rules p m i f) then frame_of_work (next_there p m (slice_get (ops_of p m.number) i) (work_of f)) else clash_frame
+
+abbrev pub frame_caught : FlowFrame → ℕ → FlowFrame
+frame_caught f class = frame_of f.locals (Class class ∷ []) f.fresh
+
+abbrev pub given_by : Program → Method → ℕ → FlowFrame → Edge → FlowFrame
+given_by p m i f (Next to) = frame_after p m i f
+given_by p m i f (Caught to class) = frame_caught f class
+
+-- what an instruction with a frame gives along an edge
+unfoldable pub given : Program → Method → ℕ → FlowFrame → Edge → FlowFrame
+given p m i f e = if f.clash then clash_frame else given_by p m i f e
+
+abbrev pub target : Edge → ℕ
+target (Next to) = to
+target (Caught to class) = to
+
+abbrev pub jump_edges : List Placed → List ℕ → List Edge
+jump_edges ops to = map (λ at. Next (place_of ops at)) to
+
+abbrev pub fall_edges : ℕ → ℕ → Placed → List Edge
+fall_edges count i o = if falls o.op && nat_lt (i + 1) count then Next (i + 1) ∷ [] else []
+
+abbrev pub covers : ℕ → Handler → Bool
+covers at h = nat_le h.start at && nat_lt at h.until
+
+abbrev pub catching : Handler → Edge
+catching h = Caught h.to h.class
+
+abbrev pub edges_there : List Placed → List Handler → ℕ → Option Placed → List Edge
+edges_there ops handlers i None = []
+edges_there ops handlers i (Some o) = fall_edges (length ops) i o ++ (jump_edges ops (jumps o.op) ++ map catching (filter (covers o.at) handlers))
+
+-- the successors and the handlers of an instruction, by place
+unfoldable pub edges : Program → Method → ℕ → List Edge
+edges p m i = edges_there (ops_of p m.number) m.handlers i (slice_get (ops_of p m.number) i)

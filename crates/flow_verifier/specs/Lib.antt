@@ -1,0 +1,6 @@
+pub mod Methods
+pub mod Given
+pub mod Typing
+pub mod Flowing
+pub mod Going
+pub mod Potential

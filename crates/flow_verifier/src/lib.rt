@@ -1,0 +1,15 @@
+//! The data-flow verifier: a method's typing, or the first rule that it breaks.
+#![tactic(auto)]
+
+mod answer;
+mod edges;
+mod frames;
+mod given;
+mod method;
+mod solver;
+mod verifying;
+
+pub use answer::{FlowErr, VerifyErr};
+pub use frames::Frames;
+pub use method::{Edge, Handler, Method};
+pub use verifying::{verify, verify_counted};
