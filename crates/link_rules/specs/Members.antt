@@ -57,7 +57,7 @@ is_same_method f m g o = is_name (method_name f m) (method_name g o) && is_name 
 abbrev pub is_unlike : ℕ → ℕ → Bool
 is_unlike m o = is_final o || (not (beq (is_static m) (is_static o)) || nat_lt (access m) (access o))
 
-abbrev pub overrides_badly : ClassFile → MethodItem → ClassFile → MethodItem → Bool
+unfoldable pub overrides_badly : ClassFile → MethodItem → ClassFile → MethodItem → Bool
 overrides_badly f m g o = is_same_method f m g o && (is_inherited f g o && is_unlike m.flags o.flags)
 
 -- no superclass's method is in the way of an initialiser
@@ -65,13 +65,18 @@ abbrev pub is_initialiser : List ℕ → Bool
 is_initialiser name = is_name init_name name || is_name clinit_name name
 
 -- over the methods of the class of a number
-abbrev pub overrides_badly_at : List ClassFile → ClassFile → MethodItem → ℕ → Bool
+unfoldable pub overrides_badly_at : List ClassFile → ClassFile → MethodItem → ℕ → Bool
 overrides_badly_at all f m k = from false (λ g. list_any (overrides_badly f m g) g.methods) (slice_get all k)
 
--- the class f has the number c
+-- a method of the class f, whose number is c, overrides badly
+abbrev pub is_bad_override : List ClassFile → ℕ → ClassFile → MethodItem → Bool
+is_bad_override all c f m =
+    not (is_initialiser (method_name f m)) && list_any (overrides_badly_at all f m) (supers_of all c)
+
+-- its refusal
 unfoldable pub bad_override : List ClassFile → ℕ → ClassFile → MethodItem → List LinkErr
 bad_override all c f m =
-    refused_if (not (is_initialiser (method_name f m)) && list_any (overrides_badly_at all f m) (supers_of all c)) BadOverride f (method_name f m ++ method_desc f m)
+    refused_if (is_bad_override all c f m) BadOverride f (method_name f m ++ method_desc f m)
 
 unfoldable pub bad_overrides : List ClassFile → ℕ → ClassFile → List LinkErr
 bad_overrides all c f = flat_map (bad_override all c f) f.methods

@@ -1,0 +1,14 @@
+//! Rules of linking on what lies above a class, and on the members that it declares.
+#![tactic(auto)]
+
+mod declared;
+mod loops;
+mod overrides;
+mod packages;
+mod row_table;
+
+pub use declared::check_declared;
+pub use loops::check_loops;
+pub use overrides::check_overrides;
+pub use packages::is_one_package;
+pub use row_table::{Step, rows};
