@@ -1,0 +1,22 @@
+use Rattle.std.proofs.Common.{◌≡◌, ℕ, ◌<◌, List, Option, length, map, ap, ◌∙◌, arith}
+use Rattle.std.proofs.lemmas.List.{length-map}
+use Rattle.class_format.specs.declared.class.ClassFile.{ClassFile}
+use Rattle.class_names.specs.Seen.{seen_member}
+use Rattle.hierarchy.specs.Hierarchy.{row_of}
+use Rattle.hierarchy.specs.Walks.{first_some}
+use Rattle.link_rules.specs.Numbers.{super_rows, interface_rows, super_row, lineage}
+use Rattle.link_uses.specs.declared.lookup.Found.{Found}
+use Rattle.link_uses.specs.Lookups.{own_method}
+use Rattle.link_uses.proofs.WalkedLaws.{first_walked, beyond_classes}
+use Rattle.link_uses.proofs.lookup.method_beyond.Goals as goal
+
+pub returns : goal.returns
+returns c =
+    let all : List ClassFile = c.args.program.now in
+    let f : ℕ → Option Found = own_method all (seen_member c.args.m.now) in
+    let h : ℕ → Option Found = λ k. first_some f (row_of c.args.interfaces.now k) in
+    let inside : c.args.number < length (super_rows all) = let l = length-map all (super_row all) in let i = c.requires.inside in omega arith in
+    c.first_in_interfaces.ensures
+    ∙ ap (first_some h) c.row.ensures
+    ∙ first_walked h (super_rows all) c.args.supers.now c.args.number c.requires.supers inside
+    ∙ beyond_classes f (interface_rows all) c.args.interfaces.now c.requires.ranked.0 (lineage all c.args.number) c.requires.interfaces c.requires.ranked.1 c.requires.none

@@ -1,0 +1,323 @@
+//! What code uses is accessible.
+
+ghost use Rattle.std.specs.Prelude.{◌≡◌, ◌+◌, ◌<◌, ◌≤◌, ◌^◌, [], length, map};
+ghost use Rattle.std.specs.List.{flat_map};
+ghost use Rattle.class_names.specs.Classes.{code_of, codes_of};
+ghost use Rattle.jvm_base.specs.Descriptors.{desc_of};
+ghost use Rattle.jvm_base.specs.Words.{from};
+ghost use Rattle.class_names.specs.Named.{desc_names};
+ghost use Rattle.class_names.specs.Seen.{seen_member};
+ghost use Rattle.link_rules.specs.Answers.{IsAnswer};
+ghost use Rattle.link_rules.specs.Numbers.{numbered};
+ghost use Rattle.link_uses.specs.Uses.{name_at, no_access_class, no_access_item, is_hidden, is_foreign_write, is_hidden_field, no_access_field, is_hidden_method, no_access_method, no_access_op, no_access_placed, no_access_entry, no_access_in, no_access};
+
+use crate::flags::{field_flags, method_flags};
+use crate::lookup::Resolver;
+use class_format::{ClassFile, MethodItem, PRIVATE, PROTECTED, PUBLIC, has_flag};
+use class_names::{Called, class_text, desc, is_array, member, this_name};
+use code_table::opcode::{PUTFIELD, PUTSTATIC};
+use code_table::{Code, Op, Placed};
+use jvm_base::{Desc, Elem, List, TableItem};
+use link_members::is_one_package;
+use link_rules::{LinkErr, LinkWhy, Program, ops, refuse_class_if, refuse_member_if, table};
+use std::alloc::Global;
+
+const FINAL: u16 = 0x0010;
+
+#[tactic(auto, unfolding(crate::specs::Uses::no_access_class))]
+fn check_class(
+    alloc: Global,
+    program: &Program,
+    file: &ClassFile,
+    name: &[u16],
+) -> Result<(), LinkErr>
+    ensures { IsAnswer (no_access_class program.now file.now name.now) result }
+{
+    let is_hidden = !has_flag(program.flags_of(name), PUBLIC)
+        && !is_one_package(this_name(file), name);
+    refuse_class_if(alloc, is_hidden, LinkWhy::NoAccess, file, name)
+}
+
+/// The class in a descriptor.
+fn check_desc(
+    alloc: Global,
+    program: &Program,
+    file: &ClassFile,
+    desc: &Desc,
+) -> Result<(), LinkErr>
+    ensures { IsAnswer (flat_map (no_access_class program.now file.now) (desc_names desc.now)) result }
+{
+    match &desc.elem {
+        Elem::Object(name) => check_class(alloc, program, file, name.as_slice()),
+        _ => Ok(()),
+    }
+}
+
+/// The class of an array class's elements.
+fn check_array(
+    alloc: Global,
+    program: &Program,
+    file: &ClassFile,
+    text: &[u16],
+) -> Result<(), LinkErr>
+    ensures { IsAnswer (flat_map (no_access_class program.now file.now) (from [] desc_names (desc_of text.now))) result }
+{
+    match desc(alloc, text)? {
+        Some(desc) => check_desc(alloc, program, file, &desc),
+        None => Ok(()),
+    }
+}
+
+/// The class of a class item, for an array that of its elements.
+#[tactic(auto, unfolding(crate::specs::Uses::no_access_item))]
+fn check_text(
+    alloc: Global,
+    program: &Program,
+    file: &ClassFile,
+    text: &[u16],
+) -> Result<(), LinkErr>
+    ensures { IsAnswer (no_access_item program.now file.now text.now) result }
+{
+    if is_array(text) {
+        check_array(alloc, program, file, text)
+    } else {
+        check_class(alloc, program, file, text)
+    }
+}
+
+fn name_at<'a>(program: &'a Program, number: u32) -> &'a [u16]
+    ensures { result.now ≡ name_at program.now number }
+{
+    match program.class(number as usize) {
+        Some(class) => this_name(class),
+        None => &[],
+    }
+}
+
+/// Whether a member of these flags that the class `owner` declares isn't accessible from `file`.
+#[tactic(auto, unfolding(crate::specs::Uses::is_hidden))]
+fn is_hidden(resolver: &Resolver, number: u32, file: &ClassFile, flags: u16, owner: u32) -> bool
+    requires { number < length resolver.now }
+    ensures { result ≡ is_hidden resolver.now number file.now flags owner }
+{
+    if has_flag(flags, PRIVATE) {
+        owner != number
+    } else if has_flag(flags, PUBLIC) {
+        false
+    } else {
+        !is_one_package(this_name(file), name_at(resolver.program(), owner))
+            && !(has_flag(flags, PROTECTED) && resolver.is_super(number, owner))
+    }
+}
+
+/// Whether a final field of another class is written.
+#[tactic(auto, unfolding(crate::specs::Uses::is_foreign_write))]
+fn is_foreign_write(op: u8, number: u32, flags: u16, owner: u32) -> bool
+    ensures { result ≡ is_foreign_write op number flags owner }
+{
+    (op == PUTSTATIC || op == PUTFIELD) && has_flag(flags, FINAL) && owner != number
+}
+
+fn is_hidden_field(resolver: &Resolver, number: u32, file: &ClassFile, op: u8, m: &Called) -> bool
+    requires { number < length resolver.now }
+    ensures { result ≡ is_hidden_field resolver.now number file.now op (seen_member m.now) }
+{
+    match resolver.field(m) {
+        Some(found) => {
+            let flags = field_flags(resolver.program(), &found);
+            is_hidden(resolver, number, file, flags, found.class)
+                || is_foreign_write(op, number, flags, found.class)
+        }
+        None => false,
+    }
+}
+
+fn is_hidden_method(resolver: &Resolver, number: u32, file: &ClassFile, m: &Called) -> bool
+    requires { number < length resolver.now }
+    ensures { result ≡ is_hidden_method resolver.now number file.now (seen_member m.now) }
+{
+    match resolver.method(m) {
+        Some(found) => {
+            let flags = method_flags(resolver.program(), &found);
+            is_hidden(resolver, number, file, flags, found.class)
+        }
+        None => false,
+    }
+}
+
+#[tactic(auto, unfolding(crate::specs::Uses::no_access_field))]
+fn check_field(
+    alloc: Global,
+    resolver: &Resolver,
+    number: u32,
+    file: &ClassFile,
+    op: u8,
+    m: &Called,
+) -> Result<(), LinkErr>
+    requires inside { number < length resolver.now }
+    ensures { IsAnswer (no_access_field resolver.now number file.now op (seen_member m.now)) result }
+{
+    let is_hidden = is_hidden_field(resolver, number, file, op, m);
+    refuse_member_if(alloc, is_hidden, LinkWhy::NoAccess, file, m.name, m.desc)
+}
+
+#[tactic(auto, unfolding(crate::specs::Uses::no_access_method))]
+fn check_call(
+    alloc: Global,
+    resolver: &Resolver,
+    number: u32,
+    file: &ClassFile,
+    m: &Called,
+) -> Result<(), LinkErr>
+    requires inside { number < length resolver.now }
+    ensures { IsAnswer (no_access_method resolver.now number file.now (seen_member m.now)) result }
+{
+    let is_hidden = is_hidden_method(resolver, number, file, m);
+    refuse_member_if(alloc, is_hidden, LinkWhy::NoAccess, file, m.name, m.desc)
+}
+
+/// The class that an instruction names, then the member.
+#[tactic(auto, using(link_rules::proofs::Firsts::answer_back))]
+fn check_op(
+    alloc: Global,
+    resolver: &Resolver,
+    number: u32,
+    file: &ClassFile,
+    op: &Op,
+) -> Result<(), LinkErr>
+    requires inside { number < length resolver.now }
+    ensures { IsAnswer (no_access_op resolver.now number file.now op.now) result }
+{
+    let pool = file.pool.as_slice();
+    let program = resolver.program();
+    match op {
+        Op::Static { op, item, .. } | Op::Field { op, item, .. } => {
+            let m = member(pool, *item);
+            check_text(alloc, program, file, m.class)?;
+            check_field(alloc, resolver, number, file, *op, &m)
+        }
+        Op::Invoke { item, .. } => {
+            let m = member(pool, *item);
+            check_text(alloc, program, file, m.class)?;
+            check_call(alloc, resolver, number, file, &m)
+        }
+        Op::New(item)
+        | Op::AnewArray(item)
+        | Op::Cast { item, .. }
+        | Op::MultiNewArray { item, .. } => {
+            check_text(alloc, program, file, class_text(pool, *item))
+        }
+        _ => Ok(()),
+    }
+}
+
+#[tactic(auto, using(link_rules::proofs::Firsts::places_break))]
+fn check_ops(
+    alloc: Global,
+    resolver: &Resolver,
+    number: u32,
+    file: &ClassFile,
+    ops: &[Placed],
+) -> Result<(), LinkErr>
+    requires inside { number < length resolver.now }
+    ensures { IsAnswer (flat_map (no_access_placed resolver.now number file.now) ops.now) result }
+{
+    for placed in ops {
+        check_op(alloc, resolver, number, file, &placed.op)?;
+    }
+    Ok(())
+}
+
+#[tactic(auto, unfolding(crate::specs::Uses::no_access_entry))]
+fn check_entry(
+    alloc: Global,
+    program: &Program,
+    file: &ClassFile,
+    entry: &TableItem,
+) -> Result<(), LinkErr>
+    ensures { IsAnswer (no_access_entry program.now file.now entry.now) result }
+{
+    if entry.class == 0 {
+        Ok(())
+    } else {
+        check_text(
+            alloc,
+            program,
+            file,
+            class_text(file.pool.as_slice(), entry.class),
+        )
+    }
+}
+
+#[tactic(auto, using(link_rules::proofs::Firsts::items_break))]
+fn check_table(
+    alloc: Global,
+    program: &Program,
+    file: &ClassFile,
+    table: &[TableItem],
+) -> Result<(), LinkErr>
+    ensures { IsAnswer (flat_map (no_access_entry program.now file.now) table.now) result }
+{
+    for entry in table {
+        check_entry(alloc, program, file, entry)?;
+    }
+    Ok(())
+}
+
+#[tactic(auto, using(link_rules::proofs::Firsts::answer_back), unfolding(crate::specs::Uses::no_access_in))]
+fn check_method(
+    alloc: Global,
+    resolver: &Resolver,
+    number: u32,
+    file: &ClassFile,
+    method: &MethodItem,
+    code: &Option<Code>,
+) -> Result<(), LinkErr>
+    requires code { code.now ≡ code_of file.now.pool method.now }
+    requires inside { number < length resolver.now }
+    ensures { IsAnswer (no_access_in resolver.now number file.now method.now) result }
+{
+    check_ops(alloc, resolver, number, file, ops(code))?;
+    check_table(alloc, resolver.program(), file, table(method))
+}
+
+#[tactic(auto, using(link_rules::proofs::Firsts::places_break), unfolding(crate::specs::Uses::no_access))]
+fn check_file(
+    alloc: Global,
+    resolver: &Resolver,
+    number: u32,
+    file: &ClassFile,
+    codes: &[Option<Code>],
+) -> Result<(), LinkErr>
+    requires codes { codes.now ≡ codes_of file.now }
+    requires inside { number < length resolver.now }
+    ensures { IsAnswer (no_access resolver.now number file.now) result }
+{
+    let methods = file.methods.as_slice();
+    for i in 0..methods.len() {
+        check_method(alloc, resolver, number, file, &methods[i], &codes[i])?;
+    }
+    Ok(())
+}
+
+/// What the code of these classes, which are numbered from `first` on, uses is accessible.
+#[tactic(auto, using(link_rules::proofs::Firsts::numbered_break))]
+pub fn check_access(
+    alloc: Global,
+    resolver: &Resolver,
+    first: u32,
+    files: &[ClassFile],
+    codes: &[List<Option<Code>>],
+) -> Result<(), LinkErr>
+    requires codes { codes.now ≡ map codes_of files.now }
+    requires files_in { first + length files.now ≤ length resolver.now }
+    requires few { length resolver.now < 2 ^ 25 }
+    ensures { IsAnswer (numbered (no_access resolver.now) first files.now) result }
+{
+    let mut number = first;
+    for i in 0..files.len() {
+        check_file(alloc, resolver, number, &files[i], codes[i].as_slice())?;
+        number += 1;
+    }
+    Ok(())
+}

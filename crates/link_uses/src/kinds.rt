@@ -1,0 +1,197 @@
+//! What code uses is of the kind that its instruction asks.
+
+ghost use Rattle.std.specs.Prelude.{◌≡◌, ◌==◌, map};
+ghost use Rattle.std.specs.List.{flat_map};
+ghost use Rattle.class_names.specs.Classes.{code_of, codes_of};
+ghost use Rattle.class_names.specs.Seen.{seen_member};
+ghost use Rattle.link_rules.specs.Answers.{IsAnswer};
+ghost use Rattle.link_uses.specs.Uses.{is_wrong_field_use, wrong_holder, wrong_name, wrong_method_flags, finds_wrong_method, is_wrong_call, is_wrong_new, wrong_field_use, wrong_call, wrong_new, wrong_use, wrong_use_placed, wrong_uses_in, wrong_uses};
+
+use crate::flags::{field_flags, method_flags};
+use crate::lookup::Resolver;
+use class_format::{ClassFile, MethodItem, STATIC, has_flag};
+use class_names::{Called, class_text, is_array, is_clinit, is_init, member};
+use code_table::opcode::{INVOKEINTERFACE, INVOKESPECIAL, INVOKESTATIC};
+use code_table::{Code, Op, Placed};
+use jvm_base::List;
+use link_rules::{
+    ABSTRACT, INTERFACE, LinkErr, LinkWhy, Program, ops, refuse_class_if, refuse_member_if,
+};
+use std::alloc::Global;
+
+fn is_wrong_field_use(resolver: &Resolver, is_static: bool, m: &Called) -> bool
+    ensures { result ≡ is_wrong_field_use resolver.now is_static (seen_member m.now) }
+{
+    match resolver.field(m) {
+        Some(found) => has_flag(field_flags(resolver.program(), &found), STATIC) != is_static,
+        None => false,
+    }
+}
+
+#[tactic(auto, unfolding(crate::specs::Uses::wrong_holder))]
+fn is_wrong_holder(program: &Program, op: u8, m: &Called) -> bool
+    ensures { result ≡ wrong_holder program.now op (seen_member m.now) }
+{
+    program.names_interface(m.class) != (op == INVOKEINTERFACE)
+}
+
+#[tactic(auto, unfolding(crate::specs::Uses::wrong_name))]
+fn is_wrong_name(op: u8, name: &[u16]) -> bool
+    ensures { result ≡ wrong_name op name.now }
+{
+    is_clinit(name) || is_init(name) && op != INVOKESPECIAL
+}
+
+#[tactic(auto, unfolding(crate::specs::Uses::wrong_method_flags))]
+fn are_wrong_flags(op: u8, flags: u16) -> bool
+    ensures { result ≡ wrong_method_flags op flags }
+{
+    has_flag(flags, STATIC) != (op == INVOKESTATIC)
+        || op == INVOKESPECIAL && has_flag(flags, ABSTRACT)
+}
+
+fn finds_wrong_method(resolver: &Resolver, op: u8, m: &Called) -> bool
+    ensures { result ≡ finds_wrong_method resolver.now op (seen_member m.now) }
+{
+    match resolver.method(m) {
+        Some(found) => are_wrong_flags(op, method_flags(resolver.program(), &found)),
+        None => false,
+    }
+}
+
+fn is_wrong_call(resolver: &Resolver, op: u8, m: &Called) -> bool
+    ensures { result ≡ is_wrong_call resolver.now op (seen_member m.now) }
+{
+    is_wrong_holder(resolver.program(), op, m)
+        || is_wrong_name(op, m.name)
+        || finds_wrong_method(resolver, op, m)
+}
+
+#[tactic(auto, unfolding(crate::specs::Uses::is_wrong_new))]
+fn is_wrong_new(program: &Program, text: &[u16]) -> bool
+    ensures { result ≡ is_wrong_new program.now text.now }
+{
+    is_array(text)
+        || has_flag(program.flags_of(text), INTERFACE)
+        || has_flag(program.flags_of(text), ABSTRACT)
+}
+
+#[tactic(auto, unfolding(crate::specs::Uses::wrong_field_use))]
+fn check_field(
+    alloc: Global,
+    resolver: &Resolver,
+    file: &ClassFile,
+    is_static: bool,
+    m: &Called,
+) -> Result<(), LinkErr>
+    ensures { IsAnswer (wrong_field_use resolver.now file.now is_static (seen_member m.now)) result }
+{
+    let is_wrong = is_wrong_field_use(resolver, is_static, m);
+    refuse_member_if(alloc, is_wrong, LinkWhy::WrongKind, file, m.name, m.desc)
+}
+
+#[tactic(auto, unfolding(crate::specs::Uses::wrong_call))]
+fn check_call(
+    alloc: Global,
+    resolver: &Resolver,
+    file: &ClassFile,
+    op: u8,
+    m: &Called,
+) -> Result<(), LinkErr>
+    ensures { IsAnswer (wrong_call resolver.now file.now op (seen_member m.now)) result }
+{
+    let is_wrong = is_wrong_call(resolver, op, m);
+    refuse_member_if(alloc, is_wrong, LinkWhy::WrongKind, file, m.name, m.desc)
+}
+
+#[tactic(auto, unfolding(crate::specs::Uses::wrong_new))]
+fn check_new(
+    alloc: Global,
+    resolver: &Resolver,
+    file: &ClassFile,
+    text: &[u16],
+) -> Result<(), LinkErr>
+    ensures { IsAnswer (wrong_new resolver.now file.now text.now) result }
+{
+    let is_wrong = is_wrong_new(resolver.program(), text);
+    refuse_class_if(alloc, is_wrong, LinkWhy::WrongKind, file, text)
+}
+
+fn check_op(alloc: Global, resolver: &Resolver, file: &ClassFile, op: &Op) -> Result<(), LinkErr>
+    ensures { IsAnswer (wrong_use resolver.now file.now op.now) result }
+{
+    let pool = file.pool.as_slice();
+    match op {
+        Op::Static { item, .. } => check_field(alloc, resolver, file, true, &member(pool, *item)),
+        Op::Field { item, .. } => check_field(alloc, resolver, file, false, &member(pool, *item)),
+        Op::Invoke { op, item, .. } => {
+            check_call(alloc, resolver, file, *op, &member(pool, *item))
+        }
+        Op::New(item) => check_new(alloc, resolver, file, class_text(pool, *item)),
+        _ => Ok(()),
+    }
+}
+
+#[tactic(auto, using(link_rules::proofs::Firsts::places_break))]
+fn check_ops(
+    alloc: Global,
+    resolver: &Resolver,
+    file: &ClassFile,
+    ops: &[Placed],
+) -> Result<(), LinkErr>
+    ensures { IsAnswer (flat_map (wrong_use_placed resolver.now file.now) ops.now) result }
+{
+    for placed in ops {
+        check_op(alloc, resolver, file, &placed.op)?;
+    }
+    Ok(())
+}
+
+#[tactic(auto, unfolding(crate::specs::Uses::wrong_uses_in))]
+fn check_method(
+    alloc: Global,
+    resolver: &Resolver,
+    file: &ClassFile,
+    method: &MethodItem,
+    code: &Option<Code>,
+) -> Result<(), LinkErr>
+    requires code { code.now ≡ code_of file.now.pool method.now }
+    ensures { IsAnswer (wrong_uses_in resolver.now file.now method.now) result }
+{
+    let _flags = method.flags;
+    check_ops(alloc, resolver, file, ops(code))
+}
+
+#[tactic(auto, using(link_rules::proofs::Firsts::places_break), unfolding(crate::specs::Uses::wrong_uses))]
+fn check_file(
+    alloc: Global,
+    resolver: &Resolver,
+    file: &ClassFile,
+    codes: &[Option<Code>],
+) -> Result<(), LinkErr>
+    requires codes { codes.now ≡ codes_of file.now }
+    ensures { IsAnswer (wrong_uses resolver.now file.now) result }
+{
+    let methods = file.methods.as_slice();
+    for i in 0..methods.len() {
+        check_method(alloc, resolver, file, &methods[i], &codes[i])?;
+    }
+    Ok(())
+}
+
+/// What the files' code uses is of the kind that its instruction asks.
+#[tactic(auto, using(link_rules::proofs::Firsts::places_break))]
+pub fn check_uses(
+    alloc: Global,
+    resolver: &Resolver,
+    files: &[ClassFile],
+    codes: &[List<Option<Code>>],
+) -> Result<(), LinkErr>
+    requires { codes.now ≡ map codes_of files.now }
+    ensures { IsAnswer (flat_map (wrong_uses resolver.now) files.now) result }
+{
+    for i in 0..files.len() {
+        check_file(alloc, resolver, &files[i], codes[i].as_slice())?;
+    }
+    Ok(())
+}
