@@ -13,8 +13,8 @@ use crate::exceptions::{BootException, exceptions};
 use crate::op::{BootOp, Reference};
 use crate::pool::{add_class, add_classes, add_key, add_super, add_text};
 use crate::row::{BootClass, BootCode, BootField, BootMethod};
-use crate::table::{ABSTRACT, SUPER, first_rows};
-use class_format::{ClassFile, FieldItem, MethodItem, PUBLIC};
+use crate::table::first_rows;
+use class_format::{ABSTRACT, ClassFile, FieldItem, MethodItem, PUBLIC, SUPER};
 use jvm_base::{List, NoMemory, Pool};
 use std::alloc::Global;
 

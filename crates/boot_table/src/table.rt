@@ -6,17 +6,7 @@ ghost use Rattle.boot_table.specs.Table.{first_rows};
 
 use crate::op::{BootOp, Reference};
 use crate::row::{BootClass, BootCode, BootField, BootMethod};
-use class_format::{PRIVATE, PUBLIC, STATIC};
-
-const FINAL: u16 = 0x0010;
-
-pub(crate) const SUPER: u16 = 0x0020;
-
-const NATIVE: u16 = 0x0100;
-
-const INTERFACE: u16 = 0x0200;
-
-pub(crate) const ABSTRACT: u16 = 0x0400;
+use class_format::{ABSTRACT, FINAL, INTERFACE, NATIVE, PRIVATE, PUBLIC, STATIC, SUPER};
 
 const TARGET: Reference = Reference {
     class: "java/lang/Thread",

@@ -1,12 +1,9 @@
 //! Values that no bytes spell, and values that some do.
 
-use class_format::{ClassFile, FieldItem, MethodItem, well_formed};
+use class_format::{ABSTRACT, ClassFile, FieldItem, MethodItem, well_formed};
 use jvm_base::{List, NoMemory, Pool, PoolItem, Units};
 use std::alloc::Global;
 use std::test::Fail;
-
-/// ACC_ABSTRACT.
-const ABSTRACT: u16 = 0x0400;
 
 /// The names and descriptors of some members.
 type Keys<'a> = &'a [(u16, u16)];

@@ -3,24 +3,37 @@
 ghost use Rattle.std.specs.Prelude.{◌≡◌};
 ghost use Rattle.class_format.specs.Flags.{has_flag, has_two_accesses, class_flags_clash, field_flags_clash, is_bound, method_flags_clash};
 
+/// ACC_PUBLIC, of a class, field or method.
 pub const PUBLIC: u16 = 0x0001;
 
+/// ACC_PRIVATE, of a field or method.
 pub const PRIVATE: u16 = 0x0002;
 
+/// ACC_PROTECTED, of a field or method.
 pub const PROTECTED: u16 = 0x0004;
 
+/// ACC_STATIC, of a field or method.
 pub const STATIC: u16 = 0x0008;
 
-const FINAL: u16 = 0x0010;
+/// ACC_FINAL, of a class, field or method.
+pub const FINAL: u16 = 0x0010;
 
+/// ACC_SUPER, of a class; of a method the same bit is ACC_SYNCHRONIZED.
+pub const SUPER: u16 = 0x0020;
+
+/// ACC_SYNCHRONIZED, of a method.
 const SYNCHRONIZED: u16 = 0x0020;
 
+/// ACC_VOLATILE, of a field.
 const VOLATILE: u16 = 0x0040;
 
+/// ACC_NATIVE, of a method.
 pub const NATIVE: u16 = 0x0100;
 
-const INTERFACE: u16 = 0x0200;
+/// ACC_INTERFACE, of a class.
+pub const INTERFACE: u16 = 0x0200;
 
+/// ACC_ABSTRACT, of a class or method.
 pub const ABSTRACT: u16 = 0x0400;
 
 /// Whether the bit of that value is set.

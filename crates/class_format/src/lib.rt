@@ -12,7 +12,10 @@ mod members;
 mod version;
 
 pub use class::{ClassFile, FieldItem, MethodItem};
-pub use flags::{PRIVATE, PROTECTED, PUBLIC, STATIC, class_flags_clash, has_flag};
+pub use flags::{
+    ABSTRACT, FINAL, INTERFACE, NATIVE, PRIVATE, PROTECTED, PUBLIC, STATIC, SUPER,
+    class_flags_clash, has_flag,
+};
 pub use formed::well_formed;
 pub use known_texts::{
     CLINIT, CODE, CONSTANT_VALUE, is_clinit, is_code, is_constant_at, is_constant_value, is_named,

@@ -5,9 +5,11 @@ ghost use Rattle.std.specs.List.{flat_map};
 ghost use Rattle.link_rules.specs.Answers.{IsAnswer};
 ghost use Rattle.link_rules.specs.Members.{method_name, method_desc, wrong_field, is_wrong_method, wrong_method, wrong_members};
 
-use class_format::{ClassFile, FieldItem, MethodItem, STATIC, has_flag};
+use class_format::{
+    ABSTRACT, ClassFile, FieldItem, INTERFACE, MethodItem, NATIVE, STATIC, has_flag,
+};
 use class_names::{is_clinit, text};
-use link_rules::{ABSTRACT, INTERFACE, LinkErr, LinkWhy, NATIVE, refuse_member_if};
+use link_rules::{LinkErr, LinkWhy, refuse_member_if};
 use std::alloc::Global;
 
 /// The name of a method.

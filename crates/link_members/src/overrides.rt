@@ -11,13 +11,11 @@ ghost use Rattle.link_rules.specs.Numbers.{numbered, super_rows, supers_of};
 
 use crate::declared::{method_desc, method_name};
 use crate::packages::is_one_package;
-use class_format::{ClassFile, MethodItem, PRIVATE, PROTECTED, PUBLIC, STATIC, has_flag};
+use class_format::{ClassFile, FINAL, MethodItem, PRIVATE, PROTECTED, PUBLIC, STATIC, has_flag};
 use class_names::{is_clinit, is_init, is_name, this_name};
 use jvm_base::List;
 use link_rules::{LinkErr, LinkWhy, Program, refuse_member_if};
 use std::alloc::Global;
-
-const FINAL: u16 = 0x0010;
 
 /// Private, package, protected, public.
 fn access(flags: u16) -> u8

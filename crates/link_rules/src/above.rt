@@ -9,13 +9,11 @@ ghost use Rattle.link_rules.specs.Classes.{is_wrong_super, wrong_super, wrong_in
 ghost use Rattle.link_rules.specs.Walks.Kinds.{wrong_interface_item};
 
 use crate::error::{LinkErr, LinkWhy};
-use crate::program::{INTERFACE, Program};
+use crate::program::Program;
 use crate::refuse::refuse_class_if;
-use class_format::{ClassFile, has_flag};
+use class_format::{ClassFile, FINAL, INTERFACE, has_flag};
 use class_names::{class_text, is_array, is_object, super_text};
 use std::alloc::Global;
-
-const FINAL: u16 = 0x0010;
 
 fn is_wrong_super(program: &Program, file: &ClassFile, text: &[u16]) -> bool
     ensures { result ≡ is_wrong_super program.now file.now text.now }

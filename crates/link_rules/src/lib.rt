@@ -18,5 +18,5 @@ pub use decoding::decode_files;
 pub use error::{LinkErr, LinkWhy};
 pub use left_out::check_descs;
 pub use named::check_files;
-pub use program::{ABSTRACT, INTERFACE, NATIVE, Program};
+pub use program::Program;
 pub use refuse::{refuse_class_if, refuse_member_if};

@@ -8,18 +8,9 @@ ghost use Rattle.class_names.specs.Texts.{is_array};
 ghost use Rattle.link_rules.specs.Classes.{names_interface};
 ghost use Rattle.link_rules.specs.Numbers.{number_of, flags_at, flags_of};
 
-use class_format::{ClassFile, has_flag};
+use class_format::{ClassFile, INTERFACE, has_flag};
 use class_names::{Names, is_array};
 use std::marker::Model;
-
-/// ACC_INTERFACE, of a class.
-pub const INTERFACE: u16 = 0x0200;
-
-/// ACC_ABSTRACT, of a class or method.
-pub const ABSTRACT: u16 = 0x0400;
-
-/// ACC_NATIVE, of a method.
-pub const NATIVE: u16 = 0x0100;
 
 /// The boot classes and the files' classes. A class's number is its place among them, the boot
 /// classes first. Contracts see the list of all.

@@ -13,7 +13,7 @@ ghost use Rattle.link_uses.specs.Uses.{name_at, no_access_class, no_access_item,
 
 use crate::flags::{field_flags, method_flags};
 use crate::lookup::Resolver;
-use class_format::{ClassFile, MethodItem, PRIVATE, PROTECTED, PUBLIC, has_flag};
+use class_format::{ClassFile, FINAL, MethodItem, PRIVATE, PROTECTED, PUBLIC, has_flag};
 use class_names::{Called, class_text, desc, is_array, member, this_name};
 use code_table::opcode::{PUTFIELD, PUTSTATIC};
 use code_table::{Code, Op, Placed};
@@ -21,8 +21,6 @@ use jvm_base::{Desc, Elem, List, TableItem};
 use link_members::is_one_package;
 use link_rules::{LinkErr, LinkWhy, Program, ops, refuse_class_if, refuse_member_if, table};
 use std::alloc::Global;
-
-const FINAL: u16 = 0x0010;
 
 #[tactic(auto, unfolding(crate::specs::Uses::no_access_class))]
 fn check_class(

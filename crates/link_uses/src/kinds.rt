@@ -9,14 +9,12 @@ ghost use Rattle.link_uses.specs.Uses.{is_wrong_field_use, wrong_holder, wrong_n
 
 use crate::flags::{field_flags, method_flags};
 use crate::lookup::Resolver;
-use class_format::{ClassFile, MethodItem, STATIC, has_flag};
+use class_format::{ABSTRACT, ClassFile, INTERFACE, MethodItem, STATIC, has_flag};
 use class_names::{Called, class_text, is_array, is_clinit, is_init, member};
 use code_table::opcode::{INVOKEINTERFACE, INVOKESPECIAL, INVOKESTATIC};
 use code_table::{Code, Op, Placed};
 use jvm_base::List;
-use link_rules::{
-    ABSTRACT, INTERFACE, LinkErr, LinkWhy, Program, ops, refuse_class_if, refuse_member_if,
-};
+use link_rules::{LinkErr, LinkWhy, Program, ops, refuse_class_if, refuse_member_if};
 use std::alloc::Global;
 
 fn is_wrong_field_use(resolver: &Resolver, is_static: bool, m: &Called) -> bool

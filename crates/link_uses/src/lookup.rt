@@ -9,10 +9,10 @@ ghost use Rattle.link_rules.specs.Numbers.{holder_of, super_rows, interface_rows
 ghost use Rattle.link_uses.specs.Lookups.{is_field_of, is_method_of, own_field, own_method, field_from, class_method, interface_method, found_field, found_method};
 ghost use Rattle.link_uses.specs.Tables.{AreTables, HasRanks};
 
-use class_format::{ClassFile, FieldItem, MethodItem, has_flag};
+use class_format::{ClassFile, FieldItem, INTERFACE, MethodItem, has_flag};
 use class_names::{Called, is_array, is_name, text};
 use jvm_base::List;
-use link_rules::{INTERFACE, Program};
+use link_rules::Program;
 use std::marker::Model;
 
 /// A member that was found: the number of the class that declares it, and its place there.
