@@ -1,1 +1,3 @@
 pub mod WalkedLaws
+pub mod OwnedLaws
+pub mod OwnedBuilt

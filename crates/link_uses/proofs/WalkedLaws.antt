@@ -1,10 +1,10 @@
 -- Look-ups in the tables are look-ups in the walks.
-use Rattle.std.proofs.Common.{◌≡◌, ℕ, ◌+◌, ◌<◌, ◌≤◌, List, [], ◌∷◌, ◌++◌, Option, Some, None, length, get_or, ap, sym, ◌∙◌, subst, refl, arith, inl, inr}
+use Rattle.std.proofs.Common.{◌≡◌, ℕ, ◌<◌, List, [], ◌∷◌, ◌++◌, Option, Some, None, length, ap, sym, ◌∙◌, refl, arith, inl, inr}
 use Rattle.std.specs.List.{flat_map}
 use Rattle.std.proofs.lemmas.Bool.{cases_lt}
 use Rattle.std.proofs.Math.ListN.{get_or-eq_default}
 use Rattle.hierarchy.specs.Hierarchy.{row_of, IsRanked}
-use Rattle.hierarchy.specs.Walks.{all_from, add_new, firsts, first_some, or_else, IsWalked}
+use Rattle.hierarchy.specs.Walks.{all_from, first_some, or_else, IsWalked}
 use Rattle.hierarchy.proofs.WalkLaws.{walk_unfolds, first_new}
 
 -- the first answer over a row of the table is the first over the walk
@@ -60,3 +60,24 @@ or_first None b x e = absurd cc
 pub or_second : {A : Type 0} (a b : Option A) → a ≡ None → or_else a b ≡ b
 or_second None b e = refl
 or_second (Some y) b e = absurd cc
+
+-- what stands behind an answer matters only where there is none
+or_beyond : {A : Type 0} (a b c : Option A) → (a ≡ None → b ≡ c) → or_else a b ≡ or_else a c
+or_beyond None b c h = h refl
+or_beyond (Some x) b c h = refl
+
+-- two questions that agree have one first answer
+pub first_same : {A : Type 0} (f g : ℕ → Option A) (xs : List ℕ) → ((k : ℕ) → f k ≡ g k) → first_some f xs ≡ first_some g xs
+first_same f g [] h = refl
+first_same f g (x ∷ xs) h = ap (λ o. or_else o (first_some f xs)) (h x) ∙ ap (or_else (g x)) (first_same f g xs h)
+
+-- the answer of a class: over its walk over superclasses, then over the interfaces of each
+pub class_walked : {A : Type 0} (f kept : ℕ → Option A) (super_rows interface_rows supers interfaces : List (List ℕ)) (ranks : List ℕ) (c : ℕ) → ((k : ℕ) → kept k ≡ f k) → IsWalked super_rows supers → IsWalked interface_rows interfaces → IsRanked interface_rows ranks → c < length super_rows → or_else (first_some kept (row_of supers c)) (first_some (λ k. first_some kept (row_of interfaces k)) (row_of supers c)) ≡ or_else (first_some f (all_from super_rows c)) (first_some f (flat_map (λ k. flat_map (all_from interface_rows) (row_of interface_rows k)) (all_from super_rows c)))
+class_walked f kept super_rows interface_rows supers interfaces ranks c same w v r inside =
+    let h : ℕ → Option _ = λ k. first_some f (row_of interfaces k) in
+    let g : ℕ → Option _ = λ k. first_some kept (row_of interfaces k) in
+    let row = row_of supers c in
+    let a : first_some kept row ≡ first_some f (all_from super_rows c) = first_same kept f row same ∙ first_walked f super_rows supers c w inside in
+    let b : first_some g row ≡ first_some h (all_from super_rows c) = first_same g h row (λ k. first_same kept f (row_of interfaces k) same) ∙ first_walked h super_rows supers c w inside in
+    ap (λ o. or_else o (first_some g row)) a ∙ ap (or_else (first_some f (all_from super_rows c))) b
+    ∙ or_beyond (first_some f (all_from super_rows c)) _ _ (beyond_classes f interface_rows interfaces ranks (all_from super_rows c) v r)

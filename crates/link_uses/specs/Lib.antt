@@ -1,3 +1,4 @@
 pub mod Lookups
 pub mod Tables
 pub mod Uses
+pub mod Owned

@@ -1,5 +1,5 @@
 -- Looking fields and methods up by class, name and descriptor (JVMS2 5.4.3).
-use Rattle.std.specs.Prelude.{ℕ, Bool, ◌&&◌, List, [], Option, Some, None, option_map, position, slice_get, if◌then◌else◌}
+use Rattle.std.specs.Prelude.{ℕ, Bool, ◌&&◌, List, Option, None, option_map, position, slice_get, if◌then◌else◌}
 use Rattle.jvm_base.specs.Words.{from}
 use Rattle.class_format.specs.declared.class.ClassFile.{ClassFile}
 use Rattle.class_format.specs.declared.class.FieldItem.{FieldItem}

@@ -1,5 +1,5 @@
 -- What a resolver keeps beside a program: walks upwards from each class.
-use Rattle.std.specs.Prelude.{◌<◌, ◌^◌, ℕ, List, length, map}
+use Rattle.std.specs.Prelude.{◌<◌, ◌^◌, ℕ, List, length}
 use Rattle.class_format.specs.declared.class.ClassFile.{ClassFile}
 use Rattle.hierarchy.specs.Hierarchy.{IsRanked}
 use Rattle.hierarchy.specs.Walks.{IsWalked}

@@ -1,5 +1,5 @@
 -- Rules on what instructions and exception tables use.
-use Rattle.std.specs.Prelude.{ℕ, Bool, true, false, not, ◌&&◌, ◌||◌, ◌==◌, List, [], ◌∷◌, ◌++◌, Option, Some, None, slice_get, if◌then◌else◌}
+use Rattle.std.specs.Prelude.{ℕ, Bool, true, false, not, ◌&&◌, ◌||◌, ◌==◌, List, [], ◌++◌, slice_get, if◌then◌else◌}
 use Rattle.std.specs.List.{flat_map}
 use Rattle.std.specs.Option.{is_none}
 use Rattle.std.proofs.Math.Bool.{beq}
@@ -22,7 +22,6 @@ use Rattle.link_rules.specs.declared.error.LinkWhy.TheVariants.{WrongKind, NoFie
 use Rattle.link_rules.specs.Answers.{refused_if}
 use Rattle.link_rules.specs.Classes.{names_interface}
 use Rattle.link_rules.specs.Descriptors.{key_text}
-use Rattle.link_uses.specs.declared.lookup.Found.{Found}
 use Rattle.link_uses.specs.Lookups.{found_field, found_method, field_flags, method_flags}
 use Rattle.link_rules.specs.Numbers.{flags_of, supers_of}
 use Rattle.link_rules.specs.Packages.{is_one_package}

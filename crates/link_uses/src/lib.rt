@@ -6,6 +6,7 @@ mod flags;
 mod kinds;
 mod lookup;
 mod missing;
+mod owned;
 
 pub use access::check_access;
 pub use kinds::check_uses;

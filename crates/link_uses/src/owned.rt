@@ -1,0 +1,229 @@
+//! The members that the classes of a program declare, by class, name and descriptor.
+
+ghost use Rattle.std.specs.Prelude.{◌≡◌, ◌++◌, ◌<◌, ◌^◌, ◌&&◌, [], length, IfOk, OnOk, Some, None, if◌then◌else◌};
+ghost use Rattle.std.specs.List.{flat_map, position_from};
+ghost use Rattle.std.specs.BTreeMap.{is_at};
+ghost use Rattle.hierarchy.specs.Walks.{or_else};
+ghost use Rattle.class_format.specs.declared.member_kind.MemberKind.TheVariants as kinds;
+ghost use Rattle.class_names.specs.Known.{add_name, add_names};
+ghost use Rattle.class_names.specs.Seen.{seen_member};
+ghost use Rattle.class_names.specs.Texts.{text_in};
+ghost use Rattle.link_uses.specs.Owned.{Key, key_cmp, place_at, signatures, signatures_at, signature_texts, member_texts, class_texts, has_key, sign_of, ArePlaces, IsOwned};
+
+use class_format::{ClassFile, MemberKind};
+use class_names::{Called, Names, text};
+use jvm_base::NoMemory;
+use link_rules::Program;
+use std::alloc::Global;
+use std::collections::BTreeMap;
+
+/// The places of members by their class and by the numbers of their name and descriptor.
+pub(crate) type Places = BTreeMap<(u32, (usize, usize)), usize>;
+
+/// The texts of the names and descriptors of all members, and the place of each member.
+#[derive(Drop)]
+pub(crate) struct Owned<'a> {
+    pub names: Names<'a>,
+    pub fields: Places,
+    pub methods: Places,
+}
+
+fn add_text<'a>(names: &mut Names<'a>, text: &'a [u16]) -> Result<(), NoMemory>
+    ensures { OnOk result (names.new ≡ add_name names.old text.now) }
+{
+    names.add(text)?;
+    Ok(())
+}
+
+/// Adds the texts of a member.
+fn add_texts<'a>(
+    names: &mut Names<'a>,
+    file: &'a ClassFile,
+    name: u16,
+    desc: u16,
+) -> Result<(), NoMemory>
+    ensures { OnOk result (names.new ≡ add_names names.old (signature_texts (text_in file.now.pool name, text_in file.now.pool desc))) }
+{
+    add_text(names, text(file.pool.as_slice(), name))?;
+    add_text(names, text(file.pool.as_slice(), desc))
+}
+
+fn add_field_texts<'a>(names: &mut Names<'a>, file: &'a ClassFile) -> Result<(), NoMemory>
+    ensures { OnOk result (names.new ≡ add_names names.old (member_texts kinds.Field file.now)) }
+{
+    let fields = file.fields.as_slice();
+    for field in fields {
+        add_texts(names, file, field.name, field.desc)?;
+    }
+    Ok(())
+}
+
+fn add_method_texts<'a>(names: &mut Names<'a>, file: &'a ClassFile) -> Result<(), NoMemory>
+    ensures { OnOk result (names.new ≡ add_names names.old (member_texts kinds.Method file.now)) }
+{
+    let methods = file.methods.as_slice();
+    for method in methods {
+        add_texts(names, file, method.name, method.desc)?;
+    }
+    Ok(())
+}
+
+/// Adds the texts of the members of a class.
+#[tactic(auto, using(crate::proofs::OwnedBuilt::add_append))]
+fn add_class_texts<'a>(names: &mut Names<'a>, file: &'a ClassFile) -> Result<(), NoMemory>
+    ensures { OnOk result (names.new ≡ add_names names.old (class_texts file.now)) }
+{
+    add_field_texts(names, file)?;
+    add_method_texts(names, file)
+}
+
+fn add_file_texts<'a>(names: &mut Names<'a>, files: &'a [ClassFile]) -> Result<(), NoMemory>
+    ensures { OnOk result (names.new ≡ add_names names.old (flat_map class_texts files.now)) }
+{
+    for file in files {
+        add_class_texts(names, file)?;
+    }
+    Ok(())
+}
+
+/// The texts of the members of all classes.
+#[tactic(auto, using(crate::proofs::OwnedBuilt::texts_both))]
+fn texts<'a>(alloc: Global, program: &'a Program<'a>) -> Result<Names<'a>, NoMemory>
+    ensures { IfOk result (λ names. names ≡ add_names [] (flat_map class_texts program.now)) }
+{
+    let mut names = Names::new(alloc);
+    let (boot, files) = program.parts();
+    add_file_texts(&mut names, boot)?;
+    add_file_texts(&mut names, files)?;
+    Ok(names)
+}
+
+/// Adds the place of a key, where the key has none yet.
+fn add_place(
+    places: &mut Places,
+    added: (u32, (usize, usize)),
+    place: usize,
+) -> Result<(), NoMemory>
+    ensures { OnOk result ((key : Key) → place_at places.new.entries key ≡ or_else (place_at places.old.entries key) (if is_at (key_cmp added) key then Some place else None)) }
+{
+    if !places.contains_key(&added) {
+        places.insert(added, place)?;
+    }
+    Ok(())
+}
+
+/// Adds a member of a class, where the class has none of its name and descriptor yet.
+fn add_member(
+    places: &mut Places,
+    names: &Names,
+    class: u32,
+    place: usize,
+    name: &[u16],
+    desc: &[u16],
+) -> Result<(), NoMemory>
+    ensures { OnOk result ((key : Key) → place_at places.new.entries key ≡ or_else (place_at places.old.entries key) (if has_key names.now class key (name.now, desc.now) then Some place else None)) }
+{
+    match (names.number(name), names.number(desc)) {
+        (Some(name), Some(desc)) => add_place(places, (class, (name, desc)), place),
+        _ => Ok(()),
+    }
+}
+
+fn add_fields(
+    places: &mut Places,
+    names: &Names,
+    class: u32,
+    file: &ClassFile,
+) -> Result<(), NoMemory>
+    ensures { OnOk result ((key : Key) → place_at places.new.entries key ≡ or_else (place_at places.old.entries key) (position_from (has_key names.now class key) 0 (signatures kinds.Field file.now))) }
+{
+    let pool = file.pool.as_slice();
+    let fields = file.fields.as_slice();
+    for i in 0..fields.len() {
+        let name = text(pool, fields[i].name);
+        let desc = text(pool, fields[i].desc);
+        add_member(places, names, class, i, name, desc)?;
+    }
+    Ok(())
+}
+
+fn add_methods(
+    places: &mut Places,
+    names: &Names,
+    class: u32,
+    file: &ClassFile,
+) -> Result<(), NoMemory>
+    ensures { OnOk result ((key : Key) → place_at places.new.entries key ≡ or_else (place_at places.old.entries key) (position_from (has_key names.now class key) 0 (signatures kinds.Method file.now))) }
+{
+    let pool = file.pool.as_slice();
+    let methods = file.methods.as_slice();
+    for i in 0..methods.len() {
+        let name = text(pool, methods[i].name);
+        let desc = text(pool, methods[i].desc);
+        add_member(places, names, class, i, name, desc)?;
+    }
+    Ok(())
+}
+
+/// Adds the members of the class of a number.
+fn add_class(
+    places: &mut Places,
+    names: &Names,
+    kind: MemberKind,
+    program: &Program,
+    class: u32,
+) -> Result<(), NoMemory>
+    ensures { OnOk result ((key : Key) → place_at places.new.entries key ≡ or_else (place_at places.old.entries key) (position_from (has_key names.now class key) 0 (signatures_at program.now kind class))) }
+{
+    match (program.class(class as usize), kind) {
+        (Some(file), MemberKind::Field) => add_fields(places, names, class, file),
+        (Some(file), MemberKind::Method) => add_methods(places, names, class, file),
+        (None, _) => Ok(()),
+    }
+}
+
+/// The places of all classes' members of a kind.
+fn places(
+    alloc: Global,
+    program: &Program,
+    names: &Names,
+    kind: MemberKind,
+) -> Result<Places, NoMemory>
+    requires { length program.now < 2 ^ 25 }
+    ensures { IfOk result (λ places. ArePlaces program.now names.now kind places.entries) }
+{
+    let mut places = BTreeMap::new(alloc);
+    let (boot, files) = program.parts();
+    for class in 0..boot.len() + files.len() {
+        add_class(&mut places, names, kind, program, class as u32)?;
+    }
+    Ok(places)
+}
+
+impl<'a> Owned<'a> {
+    /// What the classes of a program declare.
+    pub fn new(alloc: Global, program: &'a Program<'a>) -> Result<Owned<'a>, NoMemory>
+        requires { length program.now < 2 ^ 25 }
+        ensures { IfOk result (λ owned. IsOwned program.now owned) }
+    {
+        let names = texts(alloc, program)?;
+        let fields = places(alloc, program, &names, MemberKind::Field)?;
+        let methods = places(alloc, program, &names, MemberKind::Method)?;
+        Ok(Owned {
+            names,
+            fields,
+            methods,
+        })
+    }
+
+    /// The numbers of a member's name and descriptor; `None` where no class declares such a name or
+    /// such a descriptor.
+    pub fn sign(&self, m: &Called) -> Option<(usize, usize)>
+        ensures { result ≡ sign_of self.now.names (seen_member m.now) }
+    {
+        match (self.names.number(m.name), self.names.number(m.desc)) {
+            (Some(name), Some(desc)) => Some((name, desc)),
+            _ => None,
+        }
+    }
+}
