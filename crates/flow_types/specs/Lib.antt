@@ -1,3 +1,4 @@
+pub mod Tables
 pub mod Primitives
 pub mod Tree
 pub mod Types

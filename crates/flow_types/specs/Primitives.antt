@@ -1,6 +1,7 @@
 -- The primitive types that arrays may be of.
-use Rattle.std.specs.Prelude.{ℕ, Bool, ◌==◌, if◌then◌else◌}
+use Rattle.std.specs.Prelude.{ℕ, Bool, ◌==◌, List, [], ◌∷◌}
 use Rattle.code_table.specs.declared.element_kind.TheConstants as kind
+use Rattle.flow_types.specs.Tables.{in_table}
 use Rattle.flow_types.specs.declared.element.Primitive.{Primitive}
 use Rattle.flow_types.specs.declared.element.Primitive.TheVariants as primitive
 
@@ -19,7 +20,18 @@ primitive_number primitive.Long = kind.T_LONG
 abbrev pub same_primitive : Primitive → Primitive → Bool
 same_primitive a b = primitive_number a == primitive_number b
 
+-- the numbers of primitive types; Long has the one that is left
+abbrev pub primitives : List (ℕ × Primitive)
+primitives =
+    (kind.T_BOOLEAN, primitive.Boolean)
+    ∷ (kind.T_CHAR, primitive.Char)
+    ∷ (kind.T_FLOAT, primitive.Float)
+    ∷ (kind.T_DOUBLE, primitive.Double)
+    ∷ (kind.T_BYTE, primitive.Byte)
+    ∷ (kind.T_SHORT, primitive.Short)
+    ∷ (kind.T_INT, primitive.Int)
+    ∷ []
+
 -- the primitive type of a number
 abbrev pub primitive_of : ℕ → Primitive
-primitive_of n = if n == kind.T_BOOLEAN then primitive.Boolean else (if n == kind.T_CHAR then primitive.Char else (if n == kind.T_FLOAT then primitive.Float else (if n == kind.T_DOUBLE then primitive.Double
-    else (if n == kind.T_BYTE then primitive.Byte else (if n == kind.T_SHORT then primitive.Short else (if n == kind.T_INT then primitive.Int else primitive.Long))))))
+primitive_of n = in_table primitives primitive.Long n

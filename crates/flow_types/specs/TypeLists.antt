@@ -4,13 +4,14 @@ use Rattle.flow_types.specs.Types.{type_fits, joined, IsType}
 use Rattle.flow_types.specs.declared.flow_type.FlowType.{FlowType}
 use Rattle.flow_types.specs.declared.flow_type.FlowType.TheVariants.{Unusable, High}
 
+-- two lists of one length, in which each type fits the one at its place
 abbrev pub types_fit : List (Option ℕ) → List FlowType → List FlowType → Bool
 types_fit supers [] [] = true
 types_fit supers (a ∷ ys) (b ∷ zs) = type_fits supers a b && types_fit supers ys zs
 types_fit supers [] (b ∷ zs) = false
 types_fit supers (a ∷ ys) [] = false
 
--- part by part
+-- the least types that both fit, place by place
 abbrev pub types_joined : List (Option ℕ) → List FlowType → List FlowType → List FlowType
 types_joined supers [] zs = []
 types_joined supers (a ∷ ys) [] = []
@@ -22,17 +23,23 @@ is_operand Unusable = false
 is_operand High = false
 is_operand _ = true
 
+-- a type in front of a list, where there is one
 abbrev pub put_first : FlowType → Option (List FlowType) → Option (List FlowType)
 put_first t None = None
 put_first t (Some ts) = Some (t ∷ ts)
 
--- None where depths or kinds are unlike
-abbrev pub stacks_joined : List (Option ℕ) → List FlowType → List FlowType → Option (List FlowType)
+-- the least stack that both fit; None where depths or kinds are unlike
+abbrev pub stacks_joined :
+    List (Option ℕ) → List FlowType → List FlowType → Option (List FlowType)
 stacks_joined supers [] [] = Some []
-stacks_joined supers (a ∷ ys) (b ∷ zs) = if is_operand (joined supers a b) then put_first (joined supers a b) (stacks_joined supers ys zs) else None
+stacks_joined supers (a ∷ ys) (b ∷ zs) =
+    if is_operand (joined supers a b)
+    then put_first (joined supers a b) (stacks_joined supers ys zs)
+    else None
 stacks_joined supers [] (b ∷ zs) = None
 stacks_joined supers (a ∷ ys) [] = None
 
+-- each is a type over the classes
 abbrev pub AreTypes : List (Option ℕ) → List FlowType → Type 0
 AreTypes supers [] = Unit {0}
 AreTypes supers (t ∷ ts) = IsType supers t × AreTypes supers ts

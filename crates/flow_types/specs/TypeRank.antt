@@ -6,18 +6,22 @@ use Rattle.flow_types.specs.declared.element.Element.TheVariants.{Primitive, Obj
 use Rattle.flow_types.specs.declared.flow_type.FlowType.{FlowType}
 use Rattle.flow_types.specs.declared.flow_type.FlowType.TheVariants.{Unusable, Null, Class, Array}
 
--- the number of steps up to the root
+-- how many steps up there are from a class, of at most n
 abbrev pub steps_up : ℕ → List (Option ℕ) → ℕ → ℕ
 steps_up zero supers c = 0
-steps_up (suc n) supers c = elim (superclass supers c) as (λ _. ℕ) [ None ↦ 0 | Some up ↦ suc (steps_up n supers up) ]
+steps_up (suc n) supers c =
+    elim (superclass supers c) as (λ _. ℕ) [ None ↦ 0 | Some up ↦ suc (steps_up n supers up) ]
 
+-- how many superclasses a class has
 abbrev pub depth : List (Option ℕ) → ℕ → ℕ
 depth supers c = steps_up (length supers) supers c
 
+-- of an array's elements: a class is as high as it has superclasses
 abbrev pub elem_rank : List (Option ℕ) → Element → ℕ
 elem_rank supers (Primitive k) = 0
 elem_rank supers (Object c) = depth supers c
 
+-- a type above another has a lower number: Unusable has 0, and Null more than each class and array
 abbrev pub type_rank : List (Option ℕ) → FlowType → ℕ
 type_rank supers Unusable = 0
 type_rank supers Null = length supers + 257
