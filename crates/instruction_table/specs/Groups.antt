@@ -8,7 +8,7 @@ use Rattle.instruction_table.specs.declared.stack.Taken.{Taken}
 use Rattle.instruction_table.specs.declared.stack.Taken.TheVariants.{One, Two, Missing, Split}
 use Rattle.instruction_table.specs.declared.rule.TheConstants as rule
 
--- its values, the newest first
+-- the values that were taken, the newest first
 abbrev pub values : Taken → List FlowType
 values (One t) = t ∷ []
 values (Two t u) = t ∷ u ∷ []
@@ -25,6 +25,7 @@ abbrev pub IsWhole : List ℕ → List FlowType → List FlowType → Type 0
 IsWhole [] vs ts = vs ≡ ts
 IsWhole (r ∷ rs) vs ts = Unit {0}
 
+-- it was taken off these types as the group
 pub record IsTaken (g : Group) (ts : List FlowType) (taken : Taken) : Type 0 where
   pub rules : broken taken ≡ group_rules g ts
   pub whole : IsWhole (broken taken) (values taken) (take (group_count is_long g ts) ts)
