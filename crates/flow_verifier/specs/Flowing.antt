@@ -5,12 +5,24 @@ use Rattle.flow_types.specs.declared.flow_frame.FlowFrame.{FlowFrame}
 use Rattle.flow_verifier.specs.Going.{In}
 use Rattle.flow_verifier.specs.Typing.{frame_at, FitsPlace}
 
+-- the frame of a place, if it has one, once another flows there
 abbrev pub merged : List (Option ℕ) → Option FlowFrame → FlowFrame → FlowFrame
 merged supers None g = frame_joined supers g g
 merged supers (Some f) g = frame_joined supers f g
 
--- the frame stays, or is merged and put on the list
-pub data Flows (supers : List (Option ℕ)) (g : FlowFrame) (to : ℕ) (fs : List (Option FlowFrame)) (todo : List ℕ) (gs : List (Option FlowFrame)) (more : List ℕ) : Type 0 where
-  stays : FitsPlace supers g (frame_at fs to) → gs ≡ fs → more ≡ todo → Flows supers g to fs todo gs more
-  rises : (FitsPlace supers g (frame_at fs to) → ⊥) → gs ≡ slice_set fs to (Some (merged supers (frame_at fs to) g)) → more ≡ todo ++ (to ∷ []) → Flows supers g to fs todo gs more
-  waits : (FitsPlace supers g (frame_at fs to) → ⊥) → gs ≡ slice_set fs to (Some (merged supers (frame_at fs to) g)) → more ≡ todo → In to todo → Flows supers g to fs todo gs more
+-- a frame has flowed to a place: its frame takes it and stays, or rises, and is put on the list
+-- where it doesn't wait there already
+pub data Flows (supers : List (Option ℕ)) (g : FlowFrame) (to : ℕ)
+    (fs : List (Option FlowFrame)) (todo : List ℕ)
+    (gs : List (Option FlowFrame)) (more : List ℕ) : Type 0 where
+  stays :
+      FitsPlace supers g (frame_at fs to) →
+      gs ≡ fs → more ≡ todo → Flows supers g to fs todo gs more
+  rises :
+      (FitsPlace supers g (frame_at fs to) → ⊥) →
+      gs ≡ slice_set fs to (Some (merged supers (frame_at fs to) g)) →
+      more ≡ todo ++ (to ∷ []) → Flows supers g to fs todo gs more
+  waits :
+      (FitsPlace supers g (frame_at fs to) → ⊥) →
+      gs ≡ slice_set fs to (Some (merged supers (frame_at fs to) g)) →
+      more ≡ todo → In to todo → Flows supers g to fs todo gs more

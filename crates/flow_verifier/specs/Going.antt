@@ -21,23 +21,30 @@ IsFlagged queued todo = (i : ℕ) → slice_get queued i ≡ Some true → In i 
 
 -- what an instruction gives fits where it leads
 abbrev pub Settled : Program → Method → List (Option FlowFrame) → ℕ → Type 0
-Settled p m fs i = (k : ℕ) (f : FlowFrame) (e : Edge) → frame_at fs i ≡ Some f → slice_get (edges p m i) k ≡ Some e → FitsPlace (superclasses p) (given p m i f e) (frame_at fs (target e))
+Settled p m fs i = (k : ℕ) (f : FlowFrame) (e : Edge) →
+    frame_at fs i ≡ Some f → slice_get (edges p m i) k ≡ Some e →
+    FitsPlace (superclasses p) (given p m i f e) (frame_at fs (target e))
 
--- what holds all along
+-- frames of the method that take the entry frame and fit each closed assignment
 pub record IsBelow (p : Program) (m : Method) (fs : List (Option FlowFrame)) : Type 0 where
   pub assignment : IsAssignment p m fs
   pub entry : FitsPlace (superclasses p) (entry_frame m) (frame_at fs 0)
-  pub below : (gs : List (Option FlowFrame)) → IsClosed p m gs → (i : ℕ) → FitsThere (superclasses p) (frame_at fs i) (frame_at gs i)
+  pub below : (gs : List (Option FlowFrame)) → IsClosed p m gs →
+      (i : ℕ) → FitsThere (superclasses p) (frame_at fs i) (frame_at gs i)
 
--- between two instructions
-pub record IsGoing (p : Program) (m : Method) (fs : List (Option FlowFrame)) (todo : List ℕ) : Type 0 where
+-- who isn't on the list is settled
+pub record IsGoing (p : Program) (m : Method)
+    (fs : List (Option FlowFrame)) (todo : List ℕ) : Type 0 where
   pub under : IsBelow p m fs
   pub rest : (i : ℕ) → In i todo ⊎ Settled p m fs i
 
 -- the first j ways from one instruction, with the frame f, are done
-pub record IsPartly (p : Program) (m : Method) (at : ℕ) (f : FlowFrame) (j : ℕ) (fs : List (Option FlowFrame)) (todo : List ℕ) : Type 0 where
+pub record IsPartly (p : Program) (m : Method) (at : ℕ) (f : FlowFrame) (j : ℕ)
+    (fs : List (Option FlowFrame)) (todo : List ℕ) : Type 0 where
   pub under : IsBelow p m fs
   pub frame : IsFrame (superclasses p) (room_of m) f
   pub base : FitsPlace (superclasses p) f (frame_at fs at)
   pub others : (i : ℕ) → (i ≡ at → ⊥) → In i todo ⊎ Settled p m fs i
-  pub own : In at todo ⊎ ((frame_at fs at ≡ Some f) × ((k : ℕ) (e : Edge) → k < j → slice_get (edges p m at) k ≡ Some e → FitsPlace (superclasses p) (given p m at f e) (frame_at fs (target e))))
+  pub own : In at todo ⊎ ((frame_at fs at ≡ Some f)
+      × ((k : ℕ) (e : Edge) → k < j → slice_get (edges p m at) k ≡ Some e →
+      FitsPlace (superclasses p) (given p m at f e) (frame_at fs (target e))))

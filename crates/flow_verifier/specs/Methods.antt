@@ -24,6 +24,11 @@ use Rattle.flow_verifier.specs.declared.method.Method.{Method}
 abbrev pub ops_of : Program → ℕ → List Placed
 ops_of p n = from [] (λ c. c.ops) (code_of p n)
 
+-- addresses rise from one instruction to the next
+abbrev pub Rises : List Placed → Type 0
+Rises ops = (i j : ℕ) (a b : Placed) →
+    slice_get ops i ≡ Some a → slice_get ops j ≡ Some b → i < j → a.at < b.at
+
 -- the place of the instruction at an address: behind those with a lower one
 unfoldable pub place_of : List Placed → ℕ → ℕ
 place_of [] at = 0
@@ -35,19 +40,23 @@ place_of (o ∷ ops) at = if nat_lt o.at at then suc (place_of ops at) else 0
 abbrev pub begins_fresh : Program → ℕ → Bool
 begins_fresh p n = is_initialiser p n && not (owner_of p n == 0)
 
+-- the type of the receiver, in the first local; a static method has none
 abbrev pub receiver : Program → ℕ → List FlowType
-receiver p n = if is_static_method p n then [] else (if begins_fresh p n then flow.FreshThis else flow.Class (plain p (owner_of p n))) ∷ []
+receiver p n =
+    if is_static_method p n then []
+    else (if begins_fresh p n then flow.FreshThis else flow.Class (plain p (owner_of p n))) ∷ []
 
 -- a long takes the next local too
 abbrev pub with_half : FlowType → List FlowType
 with_half flow.Long = flow.Long ∷ flow.High ∷ []
 with_half t = t ∷ []
 
+-- types in their locals
 abbrev pub spread : List FlowType → List FlowType
 spread [] = []
 spread (t ∷ ts) = with_half t ++ spread ts
 
--- the receiver and the parameters, in their locals
+-- the types of the receiver and of the parameters, in their locals
 abbrev pub parameters : Program → ℕ → List FlowType
 parameters p n = spread (receiver p n ++ map (desc_type p) (args_of p n))
 
@@ -68,18 +77,31 @@ abbrev pub class_caught : Program → Option Target → ℕ
 class_caught p (Some (target.Class c)) = plain p c
 class_caught p _ = 0
 
+-- the class of what the entry of a place in the table takes: its target stands behind those of the
+-- code's addresses
 abbrev pub handler_class : Program → ℕ → ℕ → TableItem → ℕ
-handler_class p n i e = if e.class == 0 then throwable else class_caught p (target_of p n (65536 + i))
+handler_class p n i e =
+    if e.class == 0 then throwable else class_caught p (target_of p n (65536 + i))
 
+-- an entry of the table as a handler
 abbrev pub handler : Program → ℕ → List Placed → ℕ → TableItem → Handler
-handler p n ops i e = record { start = e.start; until = e.end; to = place_of ops e.handler; class = handler_class p n i e }
+handler p n ops i e = record {
+  start = e.start;
+  until = e.end;
+  to = place_of ops e.handler;
+  class = handler_class p n i e;
+}
 
-abbrev pub handlers_from : Program → ℕ → List Placed → ℕ → List TableItem → List Handler
+-- the entries of the table as handlers, of which the first has the place i
+abbrev pub handlers_from :
+    Program → ℕ → List Placed → ℕ → List TableItem → List Handler
 handlers_from p n ops i [] = []
-handlers_from p n ops i (e ∷ es) = handler p n ops i e ∷ handlers_from p n ops (i + 1) es
+handlers_from p n ops i (e ∷ es) =
+    handler p n ops i e ∷ handlers_from p n ops (i + 1) es
 
 -- ---- methods
 
+-- a method with this code, as it is verified
 abbrev pub method_with : Program → ℕ → Code → Method
 method_with p n c = record {
   number = n;
@@ -90,14 +112,22 @@ method_with p n c = record {
   handlers = handlers_from p n c.ops 0 c.table;
 }
 
--- the method of a number
+-- a method without code
 abbrev pub no_method : ℕ → Method
-no_method n = record { number = n; max_stack = 0; entry = []; fresh = false; crowded = false; handlers = [] }
+no_method n = record {
+  number = n;
+  max_stack = 0;
+  entry = [];
+  fresh = false;
+  crowded = false;
+  handlers = [];
+}
 
+-- the method of a number, as it is verified
 abbrev pub method_of : Program → ℕ → Method
 method_of p n = from (no_method n) (method_with p n) (code_of p n)
 
--- one place more, for a handler's exception
+-- the room of a method's frames; one place more is for a handler's exception
 abbrev pub room_of : Method → Room
 room_of m = record { locals = length m.entry; stack = m.max_stack + 1 }
 
@@ -108,10 +138,16 @@ pub record IsMethod (p : Program) (m : Method) : Type 0 where
   pub few : length (ops_of p m.number) < 2 ^ 32
   pub throwable_there : throwable < length (superclasses p)
   pub site : IsSite (site_of p m.number)
-  pub rising : (i j : ℕ) (a b : Placed) → slice_get (ops_of p m.number) i ≡ Some a → slice_get (ops_of p m.number) j ≡ Some b → i < j → a.at < b.at
-  pub rows : (i : ℕ) (o : Placed) → slice_get (ops_of p m.number) i ≡ Some o → IsRow (superclasses p) (row p m.number o.at o.op)
-  pub targets : (i k to : ℕ) (o : Placed) → slice_get (ops_of p m.number) i ≡ Some o → slice_get (jumps o.op) k ≡ Some to → place_of (ops_of p m.number) to < length (ops_of p m.number)
-  pub handlers : (i : ℕ) (h : Handler) → slice_get m.handlers i ≡ Some h → (h.to < length (ops_of p m.number)) × (h.class < length (superclasses p))
+  pub rising : Rises (ops_of p m.number)
+  pub rows : (i : ℕ) (o : Placed) →
+      slice_get (ops_of p m.number) i ≡ Some o →
+      IsRow (superclasses p) (row p m.number o.at o.op)
+  pub targets : (i k to : ℕ) (o : Placed) →
+      slice_get (ops_of p m.number) i ≡ Some o → slice_get (jumps o.op) k ≡ Some to →
+      place_of (ops_of p m.number) to < length (ops_of p m.number)
+  pub handlers : (i : ℕ) (h : Handler) →
+      slice_get m.handlers i ≡ Some h →
+      (h.to < length (ops_of p m.number)) × (h.class < length (superclasses p))
   pub entry : AreTypes (superclasses p) m.entry
 
 -- a method with code of which that holds

@@ -14,6 +14,7 @@ use Rattle.flow_verifier.specs.Given.{broken, given, target, edges}
 use Rattle.flow_verifier.specs.declared.answer.VerifyErr.{VerifyErr}
 use Rattle.flow_verifier.specs.declared.answer.VerifyErr.TheVariants.{Flow, NoMemory}
 
+-- no frame, where there is none or nothing
 abbrev pub known : Option (Option FlowFrame) → Option FlowFrame
 known None = None
 known (Some o) = o
@@ -22,33 +23,39 @@ known (Some o) = o
 abbrev pub frame_at : List (Option FlowFrame) → ℕ → Option FlowFrame
 frame_at fs i = known (slice_get fs i)
 
+-- a frame may flow to a place that has this frame, or none, which takes nothing
 abbrev pub FitsPlace : List (Option ℕ) → FlowFrame → Option FlowFrame → Type 0
 FitsPlace supers f None = ⊥
 FitsPlace supers f (Some g) = frame_fits supers f g ≡ true
 
--- no frame fits everything
+-- a place's frame fits another's; none fits everything
 abbrev pub FitsThere : List (Option ℕ) → Option FlowFrame → Option FlowFrame → Type 0
 FitsThere supers None o = Unit {0}
 FitsThere supers (Some f) o = FitsPlace supers f o
 
+-- the frame in which a method begins
 abbrev pub entry_frame : Method → FlowFrame
 entry_frame m = frame_of m.entry [] m.fresh
 
 -- a frame of the method, or none, for each instruction
 pub record IsAssignment (p : Program) (m : Method) (fs : List (Option FlowFrame)) : Type 0 where
   pub long : length fs ≡ length (ops_of p m.number)
-  pub frames : (i : ℕ) (f : FlowFrame) → frame_at fs i ≡ Some f → IsFrame (superclasses p) (room_of m) f
+  pub frames : (i : ℕ) (f : FlowFrame) →
+      frame_at fs i ≡ Some f → IsFrame (superclasses p) (room_of m) f
 
 -- the entry frame fits the first, and what each instruction with a frame gives fits where it leads
 pub record IsClosed (p : Program) (m : Method) (fs : List (Option FlowFrame)) : Type 0 where
   pub assignment : IsAssignment p m fs
   pub entry : FitsPlace (superclasses p) (entry_frame m) (frame_at fs 0)
-  pub each : (i k : ℕ) (f : FlowFrame) (e : Edge) → frame_at fs i ≡ Some f → slice_get (edges p m i) k ≡ Some e → FitsPlace (superclasses p) (given p m i f e) (frame_at fs (target e))
+  pub each : (i k : ℕ) (f : FlowFrame) (e : Edge) →
+      frame_at fs i ≡ Some f → slice_get (edges p m i) k ≡ Some e →
+      FitsPlace (superclasses p) (given p m i f e) (frame_at fs (target e))
 
--- it fits every closed one
+-- a closed assignment that fits every closed one
 pub record IsLeast (p : Program) (m : Method) (fs : List (Option FlowFrame)) : Type 0 where
   pub closed : IsClosed p m fs
-  pub least : (gs : List (Option FlowFrame)) → IsClosed p m gs → (i : ℕ) → FitsThere (superclasses p) (frame_at fs i) (frame_at gs i)
+  pub least : (gs : List (Option FlowFrame)) → IsClosed p m gs →
+      (i : ℕ) → FitsThere (superclasses p) (frame_at fs i) (frame_at gs i)
 
 -- the least closed assignment, where it breaks no rule
 pub record IsTyping (p : Program) (m : Method) (fs : List (Option FlowFrame)) : Type 0 where
@@ -56,21 +63,28 @@ pub record IsTyping (p : Program) (m : Method) (fs : List (Option FlowFrame)) : 
   pub keeps : (i : ℕ) (f : FlowFrame) → frame_at fs i ≡ Some f → broken p m i f ≡ []
 
 -- the lowest address at which it breaks a rule, and the lowest rule that it breaks there
-pub record IsBroken (p : Program) (m : Method) (rule at : ℕ) (fs : List (Option FlowFrame)) : Type 0 where
+pub record IsBroken (p : Program) (m : Method) (rule at : ℕ)
+    (fs : List (Option FlowFrame)) : Type 0 where
   pub least : IsLeast p m fs
   pub place : ℕ
   pub placed : Placed
   pub is_placed : slice_get (ops_of p m.number) place ≡ Some placed
   pub address : placed.at ≡ at
-  pub here : (f : FlowFrame) × (frame_at fs place ≡ Some f) × (lowest (broken p m place f) ≡ Some rule)
-  pub below : (i : ℕ) (o : Placed) (f : FlowFrame) → slice_get (ops_of p m.number) i ≡ Some o → o.at < at → frame_at fs i ≡ Some f → broken p m i f ≡ []
+  pub here : (f : FlowFrame)
+      × (frame_at fs place ≡ Some f) × (lowest (broken p m place f) ≡ Some rule)
+  pub below : (i : ℕ) (o : Placed) (f : FlowFrame) →
+      slice_get (ops_of p m.number) i ≡ Some o → o.at < at →
+      frame_at fs i ≡ Some f → broken p m i f ≡ []
 
 -- the method has a typing, or its least closed assignment breaks a rule first there, and nothing is
 -- its typing
 abbrev pub Judged : Program → Method → Result (List (Option FlowFrame)) VerifyErr → Type 0
 Judged p m (Ok fs) = IsTyping p m fs
 Judged p m (Err NoMemory) = Unit {0}
-Judged p m (Err (Flow e)) = (e.method ≡ m.number) × ((fs : List (Option FlowFrame)) × IsBroken p m e.rule e.at fs) × ((fs : List (Option FlowFrame)) → IsTyping p m fs → ⊥)
+Judged p m (Err (Flow e)) =
+    (e.method ≡ m.number)
+    × ((fs : List (Option FlowFrame)) × IsBroken p m e.rule e.at fs)
+    × ((fs : List (Option FlowFrame)) → IsTyping p m fs → ⊥)
 
 -- the lowest rule that is broken at a place
 abbrev pub rule_of : Program → Method → ℕ → Option FlowFrame → Option ℕ
@@ -83,7 +97,10 @@ NoneBroken p m fs n = (i : ℕ) → i < n → rule_of p m i (frame_at fs i) ≡ 
 
 -- the first place at which a rule is broken
 abbrev pub IsFirst : Program → Method → List (Option FlowFrame) → ℕ → ℕ → Type 0
-IsFirst p m fs rule place = (place < length fs) × NoneBroken p m fs place × (rule_of p m place (frame_at fs place) ≡ Some rule)
+IsFirst p m fs rule place =
+    (place < length fs)
+    × NoneBroken p m fs place
+    × (rule_of p m place (frame_at fs place) ≡ Some rule)
 
 -- the sum over the first n numbers
 abbrev pub sum_to : (ℕ → ℕ) → ℕ → ℕ
