@@ -287,3 +287,21 @@ is_join supers tree a b = record {
 pub joined_ok : {E : Type 0} (supers : List (Option ℕ)) → IsTree supers → (a b : FlowFrame) (r : Result FlowFrame E) → IfOk r (λ f. f ≡ frame_joined supers a b) → IfOk r (λ f. IsJoin supers a b f)
 joined_ok supers tree a b (Ok f) h = subst (IsJoin supers a b) (sym h) (is_join supers tree a b)
 joined_ok supers tree a b (Err e) h = tt
+
+-- the clash frame joined with any is itself
+pub joined-clash-left : (supers : List (Option ℕ)) (a b : FlowFrame) → a.clash ≡ true → frame_joined supers a b ≡ clash_frame
+unfolding frame_joined
+joined-clash-left supers a b h = rw h refl
+
+pub joined-clash-right : (supers : List (Option ℕ)) (a b : FlowFrame) → b.clash ≡ true → frame_joined supers a b ≡ clash_frame
+unfolding frame_joined
+joined-clash-right supers a b h = elim (cases_Bool a.clash) [ inl p ↦ rw p refl | inr p ↦ rw (p, h) refl ]
+
+-- stacks that don't meet give the clash frame
+pub joined-apart : (supers : List (Option ℕ)) (a b : FlowFrame) → stacks_joined supers a.stack b.stack ≡ None → frame_joined supers a b ≡ clash_frame
+unfolding frame_joined
+joined-apart supers a b h =
+    elim (cases_Bool a.clash) [
+      | inl p ↦ rw p refl
+      | inr p ↦ elim (cases_Bool b.clash) [ inl q ↦ rw (p, q) refl | inr q ↦ rw (p, q, h) refl ]
+    ]

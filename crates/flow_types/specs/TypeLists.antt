@@ -39,6 +39,13 @@ stacks_joined supers (a ∷ ys) (b ∷ zs) =
 stacks_joined supers [] (b ∷ zs) = None
 stacks_joined supers (a ∷ ys) [] = None
 
+-- two stacks of one depth, in which operands of each place have one above them
+abbrev pub stacks_meet : List (Option ℕ) → List FlowType → List FlowType → Bool
+stacks_meet supers [] [] = true
+stacks_meet supers (a ∷ ys) (b ∷ zs) = is_operand (joined supers a b) && stacks_meet supers ys zs
+stacks_meet supers [] (b ∷ zs) = false
+stacks_meet supers (a ∷ ys) [] = false
+
 -- each is a type over the classes
 abbrev pub AreTypes : List (Option ℕ) → List FlowType → Type 0
 AreTypes supers [] = Unit {0}

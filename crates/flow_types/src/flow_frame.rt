@@ -1,10 +1,10 @@
 //! The types of a method's locals and stack at one instruction.
 
-ghost use Rattle.std.specs.Prelude.{◌≡◌, ◌+◌, IfOk};
+ghost use Rattle.std.specs.Prelude.{◌≡◌, ◌+◌, IfOk, false, length};
 ghost use Rattle.flow_types.specs.Tree.{superclasses, IsTree};
 ghost use Rattle.flow_types.specs.Frames.{clash_frame, frame_joined, frame_fits, IsJoin};
 
-use crate::flow_list::{merge_locals, merge_stacks, types_fit};
+use crate::flow_list::{merge_locals, merge_stacks, raise_types, stacks_meet, types_fit};
 use crate::flow_type::FlowType;
 use crate::steps::Steps;
 use jvm_base::{List, NoMemory};
@@ -66,6 +66,25 @@ impl FlowFrame {
         types_fit(image, low.locals.as_slice(), self.locals.as_slice())
             && types_fit(image, low.stack.as_slice(), self.stack.as_slice())
             && (!low.fresh || self.fresh)
+    }
+
+    /// Makes this frame the least that it and another one fit, in place. It takes no memory.
+    #[tactic(auto, using(crate::proofs::Lists::meet_joined, crate::proofs::Lists::meet_long), unfolding(crate::specs::Frames::frame_joined))]
+    pub fn raise(&mut self, alloc: Global, image: &Image, low: &FlowFrame)
+        requires tree { IsTree (superclasses image.now) }
+        requires alike { self.old.clash ≡ false → low.now.clash ≡ false → length self.old.locals ≡ length low.now.locals }
+        ensures { self.new ≡ frame_joined (superclasses image.now) self.old low.now }
+    {
+        if self.clash
+            || low.clash
+            || !stacks_meet(image, self.stack.as_slice(), low.stack.as_slice())
+        {
+            *self = FlowFrame::clash(alloc);
+            return;
+        }
+        raise_types(image, &mut self.locals, low.locals.as_slice());
+        raise_types(image, &mut self.stack, low.stack.as_slice());
+        self.fresh = self.fresh || low.fresh;
     }
 }
 
