@@ -105,15 +105,15 @@ fn first_in_interface(places: &Places, sign: (usize, usize), walk: &[u32]) -> Op
 /// Looks fields and methods up. It keeps for each class the walks upwards from it, and the members
 /// that it declares. Contracts see the list of all classes.
 #[derive(Drop)]
-pub struct Resolver<'a> {
-    program: &'a Program<'a>,
+pub struct Resolver<'p, 'a> {
+    program: &'p Program<'a>,
     supers: List<List<u32>>,
     interfaces: List<List<u32>>,
     fields: List<List<u32>>,
-    owned: Owned<'a>,
+    owned: Owned<'p>,
 }
 
-impl<'a> Model for Resolver<'a> {
+impl<'p, 'a> Model for Resolver<'p, 'a> {
     ghost use Rattle.std.specs.Prelude.{List as Items};
     ghost use Rattle.std.specs.Coded.{coded_list};
     ghost use Rattle.class_format.specs.declared.class.ClassFile.{ClassFile as File};
@@ -226,15 +226,15 @@ fn is_in_supers(program: &Program, supers: &[List<u32>], number: u32, above: u32
     is_other(row(supers, number), number, above)
 }
 
-impl<'a> Resolver<'a> {
+impl<'p, 'a> Resolver<'p, 'a> {
     /// A resolver with tables of the program's walks.
     pub fn new(
         alloc: Global,
-        program: &'a Program<'a>,
+        program: &'p Program<'a>,
         supers: List<List<u32>>,
         interfaces: List<List<u32>>,
         fields: List<List<u32>>,
-    ) -> Result<Resolver<'a>, NoMemory>
+    ) -> Result<Resolver<'p, 'a>, NoMemory>
         requires { AreTables program.now supers interfaces fields }
         ensures { IfOk result (λ resolver. resolver ≡ program.now) }
     {

@@ -202,7 +202,7 @@ fn places(
 
 impl<'a> Owned<'a> {
     /// What the classes of a program declare.
-    pub fn new(alloc: Global, program: &'a Program<'a>) -> Result<Owned<'a>, NoMemory>
+    pub fn new<'f>(alloc: Global, program: &'a Program<'f>) -> Result<Owned<'a>, NoMemory>
         requires { length program.now < 2 ^ 25 }
         ensures { IfOk result (λ owned. IsOwned program.now owned) }
     {
