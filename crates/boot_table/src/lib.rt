@@ -5,9 +5,11 @@
 mod build;
 mod code;
 mod exceptions;
+mod laws;
 mod op;
 mod pool;
 mod row;
 mod table;
 
 pub use build::boot_classes;
+pub use laws::boot_is_formed;
