@@ -1,0 +1,145 @@
+//! All refusals of linking, in order.
+
+ghost use Rattle.std.specs.Prelude.{◌≡◌, ◌++◌, ◌+◌, ◌<◌, ◌≤◌, ◌^◌, length, map, All, IfOk};
+ghost use Rattle.std.specs.List.{flat_map};
+ghost use Rattle.boot_table.specs.Files.{boot_files};
+ghost use Rattle.class_format.specs.Meaning.{IsClass};
+ghost use Rattle.class_names.specs.Classes.{codes_of};
+ghost use Rattle.hierarchy.specs.Hierarchy.{IsRanked};
+ghost use Rattle.hierarchy.specs.Walks.{IsWalked};
+ghost use Rattle.link_rules.specs.Answers.{IsAnswer};
+ghost use Rattle.link_rules.specs.Numbers.{numbered, above_rows, super_rows};
+ghost use Rattle.link_rules.specs.Decoding.{undecoded_file};
+ghost use Rattle.link_rules.specs.Sizes.{HasFewMethods};
+ghost use Rattle.class_link.specs.Mains.{no_main};
+ghost use Rattle.class_link.specs.Refusals.{classes_of, first_number, name_refusals, above_refusals, declared_refusals, use_refusals, member_refusals, rule_refusals, program_refusals};
+
+use crate::main_class::check_main;
+use crate::names::named_program;
+use crate::tables::{FIRST, ranks, resolver, walk_table};
+use boot_table::boot_classes;
+use class_format::ClassFile;
+use code_table::Code;
+use jvm_base::{List, Units};
+use link_members::{Step, check_declared, check_overrides};
+use link_rules::{LinkErr, Program, check_descs, check_finals, check_kinds, decode_files};
+use link_uses::{Resolver, check_access, check_members, check_uses};
+use std::alloc::Global;
+
+/// What lies above each class is of the right kind. It answers ranks of the classes.
+#[tactic(auto, using(link_rules::proofs::Firsts::answer_back), unfolding(crate::specs::Refusals::above_refusals))]
+fn check_above(alloc: Global, program: &Program, files: &[ClassFile]) -> Result<List<u32>, LinkErr>
+    requires program { program.now ≡ classes_of files.now }
+    requires count { length program.now ≡ FIRST + length files.now }
+    requires few { length files.now ≤ 1024 }
+    ensures ranked { IfOk result (λ ranks. IsRanked (above_rows program.now) ranks) }
+    ensures answer { IsAnswer (above_refusals program.now first_number files.now) result }
+{
+    check_kinds(alloc, program, files)?;
+    check_finals(alloc, program, files)?;
+    ranks(alloc, program, files)
+}
+
+/// What the files declare may be declared.
+#[tactic(auto, using(link_rules::proofs::Firsts::answer_back), unfolding(crate::specs::Refusals::declared_refusals))]
+fn check_declarations(
+    alloc: Global,
+    program: &Program,
+    supers: &[List<u32>],
+    ranks: &[u32],
+    files: &[ClassFile],
+    codes: &[List<Option<Code>>],
+) -> Result<(), LinkErr>
+    requires program { program.now ≡ classes_of files.now }
+    requires count { length program.now ≡ FIRST + length files.now }
+    requires few { length files.now ≤ 1024 }
+    requires ranked { IsRanked (super_rows program.now) ranks.now }
+    requires walked { IsWalked (super_rows program.now) supers.now }
+    requires codes { codes.now ≡ map codes_of files.now }
+    ensures { IsAnswer (declared_refusals program.now first_number files.now) result }
+{
+    check_descs(alloc, files, codes)?;
+    check_declared(alloc, files)?;
+    check_overrides(alloc, program, supers, ranks, FIRST, files)
+}
+
+/// What the files' code uses is there, of the right kind, and accessible.
+#[tactic(auto, using(link_rules::proofs::Firsts::answer_back), unfolding(crate::specs::Refusals::use_refusals))]
+fn check_code(
+    alloc: Global,
+    resolver: &Resolver,
+    files: &[ClassFile],
+    codes: &[List<Option<Code>>],
+) -> Result<(), LinkErr>
+    requires count { length resolver.now ≡ FIRST + length files.now }
+    requires few { length files.now ≤ 1024 }
+    requires codes { codes.now ≡ map codes_of files.now }
+    ensures { IsAnswer (use_refusals resolver.now first_number files.now) result }
+{
+    check_members(alloc, resolver, files, codes)?;
+    check_uses(alloc, resolver, files, codes)?;
+    check_access(alloc, resolver, FIRST, files, codes)
+}
+
+/// What looks members up, where the rules on members hold.
+#[tactic(auto, using(link_rules::proofs::Firsts::answer_back), unfolding(crate::specs::Refusals::member_refusals))]
+fn resolved<'p, 'a>(
+    alloc: Global,
+    program: &'p Program<'a>,
+    ranks: &[u32],
+    files: &[ClassFile],
+    codes: &[List<Option<Code>>],
+) -> Result<Resolver<'p, 'a>, LinkErr>
+    requires program { program.now ≡ classes_of files.now }
+    requires count { length program.now ≡ FIRST + length files.now }
+    requires few { length files.now ≤ 1024 }
+    requires ranked { IsRanked (above_rows program.now) ranks.now }
+    requires codes { codes.now ≡ map codes_of files.now }
+    ensures resolver { IfOk result (λ resolver. resolver ≡ program.now) }
+    ensures answer { IsAnswer (member_refusals program.now first_number files.now) result }
+{
+    let supers = walk_table(alloc, program, ranks, Step::Super)?;
+    check_declarations(alloc, program, supers.as_slice(), ranks, files, codes)?;
+    let resolver = resolver(alloc, program, ranks, supers)?;
+    check_code(alloc, &resolver, files, codes)?;
+    Ok(resolver)
+}
+
+/// The rules on classes, members and uses, and the main class.
+#[tactic(auto, using(link_rules::proofs::Firsts::answer_back, crate::proofs::BootLaws::class_count), unfolding(crate::specs::Refusals::rule_refusals))]
+fn check_program<'a>(
+    alloc: Global,
+    boot: &'a [ClassFile],
+    files: &'a [ClassFile],
+    codes: &[List<Option<Code>>],
+    main: &[u16],
+) -> Result<(), LinkErr>
+    requires boot { boot.now ≡ boot_files }
+    requires few { length files.now ≤ 1024 }
+    requires codes { codes.now ≡ map codes_of files.now }
+    ensures { IsAnswer (rule_refusals files.now main.now) result }
+{
+    let program = named_program(alloc, boot, files, codes)?;
+    let ranks = check_above(alloc, &program, files)?;
+    resolved(alloc, &program, ranks.as_slice(), files, codes)?;
+    check_main(alloc, files, main)
+}
+
+/// Whether the files are linked with a main class of that name: Ok exactly where none of linking's
+/// refusals comes, else the first.
+#[tactic(auto, using(link_rules::proofs::Firsts::answer_back), unfolding(crate::specs::Refusals::program_refusals))]
+pub fn check(alloc: Global, files: &List<ClassFile>, main: &Units) -> Result<(), LinkErr>
+    requires few { length files.now ≤ 1024 }
+    requires formed { All IsClass files.now }
+    ensures { IsAnswer (program_refusals files.now main.now) result }
+{
+    let codes = decode_files(alloc, files.as_slice())?;
+    let boot = boot_classes(alloc)?;
+    check_program(
+        alloc,
+        boot.as_slice(),
+        files.as_slice(),
+        codes.as_slice(),
+        main.as_slice(),
+    )
+}

@@ -1,0 +1,74 @@
+//! The main class is there, with the method that a run starts with.
+
+ghost use Rattle.std.specs.Prelude.{◌≡◌, IfOk};
+ghost use Rattle.std.specs.List.{list_any};
+ghost use Rattle.link_rules.specs.Answers.{IsAnswer};
+ghost use Rattle.link_rules.specs.declared.error.LinkErr.TheVariants.{Bad};
+ghost use Rattle.link_rules.specs.declared.error.LinkWhy.TheVariants.{NoMain};
+ghost use Rattle.class_link.specs.Mains.{is_main, declares_main, no_main, main_name, main_desc};
+
+use class_format::{ClassFile, MethodItem, PUBLIC, STATIC, has_flag};
+use class_names::{is_name, text, this_name};
+use jvm_base::{NoMemory, Units};
+use link_rules::{LinkErr, LinkWhy};
+use std::alloc::Global;
+
+/// `main`
+const MAIN: [u16; 4] = [109, 97, 105, 110];
+
+/// `([Ljava/lang/String;)V`
+const MAIN_DESC: [u16; 22] = [
+    40, 91, 76, 106, 97, 118, 97, 47, 108, 97, 110, 103, 47, 83, 116, 114, 105, 110, 103, 59, 41,
+    86,
+];
+
+/// Whether the method is `public static void main(String[])`.
+fn is_main(file: &ClassFile, method: &MethodItem) -> bool
+    ensures { result ≡ is_main file.now method.now }
+{
+    let pool = file.pool.as_slice();
+    has_flag(method.flags, PUBLIC)
+        && has_flag(method.flags, STATIC)
+        && is_name(&MAIN, text(pool, method.name))
+        && is_name(&MAIN_DESC, text(pool, method.desc))
+}
+
+fn has_main(file: &ClassFile, methods: &[MethodItem]) -> bool
+    ensures { result ≡ list_any (is_main file.now) methods.now }
+{
+    methods.iter().any(|method| is_main(file, method))
+}
+
+/// Whether the file declares the class of that name, and such a method in it.
+fn declares_main(main: &[u16], file: &ClassFile) -> bool
+    ensures { result ≡ declares_main main.now file.now }
+{
+    is_name(main, this_name(file)) && has_main(file, file.methods.as_slice())
+}
+
+fn is_declared(main: &[u16], files: &[ClassFile]) -> bool
+    ensures { result ≡ list_any (declares_main main.now) files.now }
+{
+    files.iter().any(|file| declares_main(main, file))
+}
+
+fn refusal(alloc: Global, main: &[u16]) -> Result<LinkErr, NoMemory>
+    ensures { IfOk result (λ e. e ≡ Bad NoMain main.now main_name) }
+{
+    Ok(LinkErr::Bad {
+        why: LinkWhy::NoMain,
+        class: Units::from_slice(alloc, main)?,
+        other: Units::from_slice(alloc, &MAIN)?,
+    })
+}
+
+/// One of the files declares the main class, with the method that a run starts with.
+pub(crate) fn check_main(alloc: Global, files: &[ClassFile], main: &[u16]) -> Result<(), LinkErr>
+    ensures { IsAnswer (no_main files.now main.now) result }
+{
+    if is_declared(main, files) {
+        Ok(())
+    } else {
+        Err(refusal(alloc, main)?)
+    }
+}
