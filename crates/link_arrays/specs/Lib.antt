@@ -1,0 +1,5 @@
+pub mod Seen
+pub mod Arrays
+pub mod ArrayClasses
+pub mod Counting
+pub mod Literals
