@@ -15,7 +15,7 @@ use Rattle.code_table.specs.declared.op.Op.TheVariants.{NewArray, AnewArray, Cas
 use Rattle.class_names.specs.Classes.{codes_of}
 use Rattle.class_names.specs.Texts.{is_array, class_text}
 use Rattle.program_image.specs.Signatures.{same_desc}
-use Rattle.link_arrays.specs.Seen.{each_once}
+use Rattle.link_arrays.specs.Seen.{with_items}
 
 -- ---- the array type that an instruction names
 
@@ -82,7 +82,11 @@ file_types f = flat_map (code_types f.pool) (codes_of f)
 abbrev pub strings : Desc
 strings = array 1 (Object (codes "java/lang/String"))
 
+-- types once some more are seen
+abbrev pub with_types : List Desc → List Desc → List Desc
+with_types types more = with_items same_desc types more
+
 -- the array types of a program of these files, each where it's seen first. What the boot classes'
 -- code names isn't asked for: it names none
 unfoldable pub array_types : List ClassFile → List Desc
-array_types files = each_once same_desc (strings ∷ flat_map file_types files)
+array_types files = with_types [] (strings ∷ flat_map file_types files)

@@ -14,7 +14,7 @@ use Rattle.code_table.specs.declared.op.Op.TheVariants.{Ldc}
 use Rattle.class_names.specs.Classes.{codes_of}
 use Rattle.class_names.specs.Known.{is_name}
 use Rattle.class_names.specs.Texts.{text_in}
-use Rattle.link_arrays.specs.Seen.{each_once}
+use Rattle.link_arrays.specs.Seen.{with_items}
 
 -- ---- contents
 
@@ -47,9 +47,13 @@ file_literals f =
 
 -- ---- literals
 
+-- contents once some more are seen
+abbrev pub with_contents : List (List ℕ) → List (List ℕ) → List (List ℕ)
+with_contents contents more = with_items is_name contents more
+
 -- the contents of these files' literals, each where it's seen first
 unfoldable pub literals : List ClassFile → List (List ℕ)
-literals files = each_once is_name (flat_map file_literals files)
+literals files = with_contents [] (flat_map file_literals files)
 
 -- the number of the literal of a content
 abbrev pub literal_number : List (List ℕ) → List ℕ → Option ℕ

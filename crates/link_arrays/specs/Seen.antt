@@ -6,7 +6,3 @@ use Rattle.numbering.specs.Seen.{with_item}
 abbrev pub with_items : {A : Type 0} → (A → A → Bool) → List A → List A → List A
 with_items same items [] = items
 with_items same items (x ∷ xs) = with_items same (with_item same items x) xs
-
--- each item where it stands first
-abbrev pub each_once : {A : Type 0} → (A → A → Bool) → List A → List A
-each_once same xs = with_items same [] xs

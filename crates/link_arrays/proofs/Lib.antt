@@ -1,0 +1,5 @@
+pub mod SeenLaws
+pub mod Types
+pub mod Levels
+pub mod Counted
+pub mod ClosedNames
