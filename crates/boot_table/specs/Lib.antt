@@ -3,3 +3,4 @@ pub mod Table
 pub mod Files
 pub mod Seen
 pub mod Sizes
+pub mod Intrinsics
