@@ -3,6 +3,7 @@ use Rattle.std.proofs.Common.{◌≡◌, ℕ, ◌<◌, true, List, [], ◌++◌,
 use Rattle.std.specs.List.{Contains}
 use Rattle.std.proofs.lemmas.List.{length-append}
 use Rattle.boot_table.specs.Files.{boot_files}
+use Rattle.boot_table.specs.Intrinsics.{intrinsics}
 use Rattle.boot_table.specs.Table.{boot_rows, first_rows, exceptions}
 use Rattle.class_format.specs.declared.class.ClassFile.{ClassFile}
 use Rattle.class_names.specs.Classes.{this_name}
@@ -10,6 +11,7 @@ use Rattle.hierarchy.specs.Hierarchy.{row_of}
 use Rattle.link_members.specs.Rows.{IsFalling}
 use Rattle.link_rules.specs.Classes.{same_class}
 use Rattle.link_rules.specs.Numbers.{above_rows}
+use Rattle.class_link.specs.Natives.{natives}
 use Rattle.class_link.proofs.Falling.{are_falling, rows_fall}
 
 pub boot_count : length boot_files ≡ 34
@@ -20,6 +22,11 @@ boot_count = refl
 pub boot_apart : same_class [] boot_files ≡ []
 unfolding boot_files boot_rows first_rows exceptions
 boot_apart = refl
+
+-- the native ones are the intrinsics, in their order
+pub boot_natives : natives boot_files ≡ intrinsics
+unfolding boot_files boot_rows first_rows exceptions intrinsics
+boot_natives = refl
 
 boot_falling : are_falling [] boot_files ≡ true
 unfolding boot_files boot_rows first_rows exceptions

@@ -1,2 +1,3 @@
 pub mod Mains
+pub mod Natives
 pub mod Refusals

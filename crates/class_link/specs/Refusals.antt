@@ -1,12 +1,15 @@
 -- What linking refuses: one list in order, of which the first is answered. For one rule the refusals
 -- come file by file, and within a file in the order of its bytes. `all` are the boot classes with the
 -- files' classes behind them, and `first` is the number of the first file's class.
-use Rattle.std.specs.Prelude.{ℕ, List, ◌++◌, map}
+use Rattle.std.specs.Prelude.{ℕ, ◌+◌, List, [], ◌∷◌, ◌++◌, length, map, if◌then◌else◌}
 use Rattle.std.specs.List.{flat_map}
 use Rattle.boot_table.specs.Files.{boot_files}
 use Rattle.class_format.specs.declared.class.ClassFile.{ClassFile}
 use Rattle.class_names.specs.Classes.{this_name}
+use Rattle.link_arrays.specs.ArrayClasses.{too_many}
 use Rattle.link_rules.specs.declared.error.LinkErr.{LinkErr}
+use Rattle.link_rules.specs.declared.error.LinkErr.TheVariants.{Bad}
+use Rattle.link_rules.specs.declared.error.LinkWhy.TheVariants.{TooMany}
 use Rattle.link_rules.specs.Classes.{same_class, no_class, wrong_above, final_super, super_loop}
 use Rattle.link_rules.specs.Decoding.{undecoded_file}
 use Rattle.link_rules.specs.Descriptors.{left_out_desc}
@@ -65,3 +68,12 @@ rule_refusals files main =
 -- code that isn't decoded, then those rules
 unfoldable pub program_refusals : List ClassFile → List ℕ → List LinkErr
 program_refusals files main = numbered undecoded_file 0 files ++ rule_refusals files main
+
+-- too-many: the declared classes and the array classes are more than there may be
+abbrev pub too_many_classes : List ClassFile → List ℕ → List LinkErr
+too_many_classes files main =
+    if too_many (first_number + length files) files then Bad TooMany main [] ∷ [] else []
+
+-- all refusals of linking
+unfoldable pub link_refusals : List ClassFile → List ℕ → List LinkErr
+link_refusals files main = program_refusals files main ++ too_many_classes files main

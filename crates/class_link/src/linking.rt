@@ -12,8 +12,9 @@ ghost use Rattle.link_rules.specs.Numbers.{numbered, above_rows, super_rows};
 ghost use Rattle.link_rules.specs.Decoding.{undecoded_file};
 ghost use Rattle.link_rules.specs.Sizes.{HasFewMethods};
 ghost use Rattle.class_link.specs.Mains.{no_main};
-ghost use Rattle.class_link.specs.Refusals.{classes_of, first_number, name_refusals, above_refusals, declared_refusals, use_refusals, member_refusals, rule_refusals, program_refusals};
+ghost use Rattle.class_link.specs.Refusals.{classes_of, first_number, name_refusals, above_refusals, declared_refusals, use_refusals, member_refusals, rule_refusals, program_refusals, link_refusals};
 
+use crate::count::array_types;
 use crate::main_class::check_main;
 use crate::names::named_program;
 use crate::tables::{FIRST, ranks, resolver, walk_table};
@@ -125,13 +126,17 @@ fn check_program<'a>(
     check_main(alloc, files, main)
 }
 
-/// Whether the files are linked with a main class of that name: Ok exactly where none of linking's
-/// refusals comes, else the first.
+/// The files' code, where no rule refuses the files but that of how many classes there are.
 #[tactic(auto, using(link_rules::proofs::Firsts::answer_back), unfolding(crate::specs::Refusals::program_refusals))]
-pub fn check(alloc: Global, files: &List<ClassFile>, main: &Units) -> Result<(), LinkErr>
+fn check_rules(
+    alloc: Global,
+    files: &List<ClassFile>,
+    main: &[u16],
+) -> Result<List<List<Option<Code>>>, LinkErr>
     requires few { length files.now ≤ 1024 }
     requires formed { All IsClass files.now }
-    ensures { IsAnswer (program_refusals files.now main.now) result }
+    ensures codes { IfOk result (λ codes. codes ≡ map codes_of files.now) }
+    ensures answer { IsAnswer (program_refusals files.now main.now) result }
 {
     let codes = decode_files(alloc, files.as_slice())?;
     let boot = boot_classes(alloc)?;
@@ -140,6 +145,21 @@ pub fn check(alloc: Global, files: &List<ClassFile>, main: &Units) -> Result<(),
         boot.as_slice(),
         files.as_slice(),
         codes.as_slice(),
-        main.as_slice(),
-    )
+        main,
+    )?;
+    Ok(codes)
+}
+
+/// Whether the files are linked with a main class of that name: Ok exactly where none of linking's
+/// refusals comes, else the first.
+#[tactic(auto, using(link_rules::proofs::Firsts::answer_back), unfolding(crate::specs::Refusals::link_refusals))]
+pub fn check(alloc: Global, files: &List<ClassFile>, main: &Units) -> Result<(), LinkErr>
+    requires few { length files.now ≤ 1024 }
+    requires formed { All IsClass files.now }
+    ensures { IsAnswer (link_refusals files.now main.now) result }
+{
+    let main = main.as_slice();
+    let codes = check_rules(alloc, files, main)?;
+    array_types(alloc, files.as_slice(), codes.as_slice(), main)?;
+    Ok(())
 }

@@ -4,8 +4,7 @@ ghost use Rattle.std.specs.Prelude.{◌≡◌, IfOk};
 ghost use Rattle.std.specs.List.{list_any};
 ghost use Rattle.link_rules.specs.Answers.{IsAnswer};
 ghost use Rattle.link_rules.specs.declared.error.LinkErr.TheVariants.{Bad};
-ghost use Rattle.link_rules.specs.declared.error.LinkWhy.TheVariants.{NoMain};
-ghost use Rattle.class_link.specs.Mains.{is_main, declares_main, no_main, main_name, main_desc};
+ghost use Rattle.class_link.specs.Mains.{is_main, declares_main, no_main};
 
 use class_format::{ClassFile, MethodItem, PUBLIC, STATIC, has_flag};
 use class_names::{is_name, text, this_name};
@@ -52,13 +51,19 @@ fn is_declared(main: &[u16], files: &[ClassFile]) -> bool
     files.iter().any(|file| declares_main(main, file))
 }
 
-fn refusal(alloc: Global, main: &[u16]) -> Result<LinkErr, NoMemory>
-    ensures { IfOk result (λ e. e ≡ Bad NoMain main.now main_name) }
+/// A refusal of the main class.
+pub(crate) fn refusal(
+    alloc: Global,
+    why: LinkWhy,
+    main: &[u16],
+    other: &[u16],
+) -> Result<LinkErr, NoMemory>
+    ensures { IfOk result (λ e. e ≡ Bad why main.now other.now) }
 {
     Ok(LinkErr::Bad {
-        why: LinkWhy::NoMain,
+        why,
         class: Units::from_slice(alloc, main)?,
-        other: Units::from_slice(alloc, &MAIN)?,
+        other: Units::from_slice(alloc, other)?,
     })
 }
 
@@ -69,6 +74,6 @@ pub(crate) fn check_main(alloc: Global, files: &[ClassFile], main: &[u16]) -> Re
     if is_declared(main, files) {
         Ok(())
     } else {
-        Err(refusal(alloc, main)?)
+        Err(refusal(alloc, LinkWhy::NoMain, main, &MAIN)?)
     }
 }
