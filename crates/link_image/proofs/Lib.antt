@@ -1,0 +1,11 @@
+pub mod Steps
+pub mod Counts
+pub mod ListLaws
+pub mod BaseLaws
+pub mod Rising
+pub mod TargetPlaces
+pub mod ClassLaws
+pub mod Apart
+pub mod Within
+pub mod IsImageLaw
+pub mod SizeLaws

@@ -1,0 +1,2 @@
+-- What the loops keep: no promise of a public call rests on these.
+pub mod Bases

@@ -1,0 +1,9 @@
+pub mod Constants
+pub mod Fields
+pub mod Methods
+pub mod Classes
+pub mod Targets
+pub mod Image
+pub mod Sizes
+pub mod Parts
+pub mod Kept
