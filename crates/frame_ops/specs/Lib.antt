@@ -1,0 +1,6 @@
+pub mod Narrowing
+pub mod Numbers
+pub mod Moves
+pub mod Operands
+pub mod Table
+pub mod Stepping
