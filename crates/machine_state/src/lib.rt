@@ -2,8 +2,10 @@
 //! every run.
 #![tactic(auto)]
 
+mod laws;
 mod order;
 mod state;
 
+pub use laws::{keeps_bodies, last_write, legal_locks, one_home, one_next, other_threads};
 pub use order::Order;
 pub use state::{Choice, ClassState, End, Mode, MonitorState, Reason, ThreadState, Waiter};

@@ -1,0 +1,16 @@
+pub mod NameTests
+pub mod MapLaws
+pub mod Sources
+pub mod HeapLaws
+pub mod WriteLaws
+pub mod LocalLaws
+pub mod WriteRuns
+pub mod FrameLaws
+pub mod LikenessLaws
+pub mod LockDeeds
+pub mod ModeActs
+pub mod Agreements
+pub mod LockSteps
+pub mod LegalRuns
+pub mod NewLaws
+pub mod KeepingLaws
