@@ -1,18 +1,23 @@
 -- Files and words have one verdict at most. A call stops at the first test that it doesn't pass: one
 -- stage for each test, and one lemma for all.
-use Rattle.std.proofs.Common.{◌≡◌, ℕ, ◌<◌, ◌≤◌, List, length, Option, Some, None, refl, sym, ap, subst, ◌∙◌, ◌⊎◌, inl, inr, arith}
+use Rattle.std.proofs.Common.{◌≡◌, ℕ, zero, suc, ◌+◌, ◌<◌, ◌≤◌, Bool, true, false, nat_lt, if◌then◌else◌, List, [], ◌∷◌, length, take, map, Option, Some, None, Result, Ok, Err, refl, sym, ap, subst, ◌∙◌, ◌⊎◌, inl, inr, arith}
+use Rattle.std.specs.Prelude.{slice_get}
+use Rattle.std.proofs.lemmas.Bool.Decides.{nat_tests}
+use Rattle.std.proofs.lemmas.Option.{slice_get_within}
 use Rattle.cjvm_io.specs.Shelves.{Files, bytes_under}
+use Rattle.class_format.specs.declared.class.ClassFile.{ClassFile}
 use Rattle.class_file.specs.declared.error.ClassErr.{ClassErr}
-use Rattle.class_file.specs.Refused.{IsRefused}
-use Rattle.class_file.proofs.Refused.{no_class_refused, one_refusal}
+use Rattle.class_file.specs.Reading.Classes.{class_at}
+use Rattle.class_file.proofs.ClassLaws.{class_again}
+use Rattle.class_file.proofs.Refused.{refused_comes}
 use Rattle.thin_file.specs.declared.thin.ThinCode.{ThinCode}
-use Rattle.thin_file.specs.Thin.{IsThin}
 use Rattle.thin_file.proofs.ThinClass.{is_class}
 use Rattle.one_jvm.specs.declared.outcome.Refusal.{Refusal}
 use Rattle.one_jvm.specs.declared.outcome.Refusal.TheVariants.{Usage, File, NoFile, ReadFault, WriteFault, TooLong, NotYet, NoMemory}
-use Rattle.one_jvm.specs.Words.{IsRun, IsNoRun}
-use Rattle.one_jvm.specs.Verdicts.{limit, IsClassFile, IsOther, IsVerdict}
+use Rattle.one_jvm.specs.Words.{Asked, IsRun, IsNoRun}
+use Rattle.one_jvm.specs.Verdicts.{limit, IsMissing, IsLong, IsRefusedFile, IsClassFile, AreClassFiles, StopsAt, IsThinProgram, IsOtherProgram, Names, IsVerdict}
 use Rattle.one_jvm.specs.Outcomes.{status_of}
+use Rattle.one_jvm.proofs.WordLemmas.{one_run}
 
 -- a test stops with a verdict, or is passed and finds what the next stage goes on with
 abbrev Tests : {A V : Type 0} → (V → Type 0) → (A → Type 0) → (A → V → Type 0) → V → Type 0
@@ -29,89 +34,162 @@ one_stage stops finds next stop find either rest v w (inr p) (inl q) = absurd (e
 one_stage {A} stops finds next stop find either rest v w (inr p) (inr q) =
     rest p.0 v w p.1 p.2 (subst (λ (a : A). next a w) (find q.0 p.0 q.1 p.1) q.2)
 
-module _ {V : Type 0} (see : Option Refusal → V)
-    (same : (bytes : List ℕ) (d e : ClassErr) → IsRefused bytes d → IsRefused bytes e → see (Some (File 0 d)) ≡ see (Some (File 0 e))) where
-  -- ---- the stages
+-- ---- files as they are read
 
-  -- a class file is thin or isn't
-  abbrev AtThin : List ℕ → V → Type 0
-  AtThin bytes = Tests (λ v. (v ≡ see (Some NotYet)) × IsOther bytes) (λ (u : Unit {0}). (code : ThinCode) × IsThin bytes code) (λ u v. v ≡ see None)
+-- bytes that are a class file, or their refusal at the place k
+abbrev class_by : ℕ → Result ClassFile ClassErr → Result ClassFile Refusal
+class_by k (Ok class) = Ok class
+class_by k (Err why) = Err (File k why)
 
-  -- the bytes are a class file or aren't
-  abbrev AtClass : List ℕ → V → Type 0
-  AtClass bytes = Tests (λ v. (why : ClassErr) × (v ≡ see (Some (File 0 why))) × IsRefused bytes why) (λ (u : Unit {0}). IsClassFile bytes) (λ u. AtThin bytes)
+-- what there is under a name is a class file, or is refused
+abbrev read_at : ℕ → Option (List ℕ) → Result ClassFile Refusal
+read_at k None = Err (NoFile k)
+read_at k (Some bytes) = if nat_lt limit (length bytes) then Err (TooLong k) else class_by k (class_at bytes)
 
-  -- the bytes are too many or aren't
-  abbrev AtLength : List ℕ → V → Type 0
-  AtLength bytes = Tests (λ v. (v ≡ see (Some (TooLong 0))) × (limit < length bytes)) (λ (u : Unit {0}). length bytes ≤ limit) (λ u. AtClass bytes)
+-- what is made of a class and of those behind it
+abbrev behind : ClassFile → Result (List ClassFile) Refusal → Result (List ClassFile) Refusal
+behind class (Ok classes) = Ok (class ∷ classes)
+behind class (Err e) = Err e
 
-  -- the file is there or isn't
-  abbrev AtFile : Files → List ℕ → V → Type 0
-  AtFile fs name = Tests (λ v. (v ≡ see (Some (NoFile 0))) × (bytes_under fs name ≡ None)) (λ bytes. bytes_under fs name ≡ Some bytes) AtLength
+abbrev joined : Result ClassFile Refusal → Result (List ClassFile) Refusal → Result (List ClassFile) Refusal
+joined (Ok class) rest = behind class rest
+joined (Err e) rest = Err e
 
-  -- the words ask to run a file or don't
-  abbrev AtWords : Files → List (List ℕ) → V → Type 0
-  AtWords fs words = Tests (λ v. (v ≡ see (Some Usage)) × IsNoRun words) (IsRun words) (AtFile fs)
+-- files are class files, or the first that isn't is refused; the first has the place k
+abbrev read_all : ℕ → List (Option (List ℕ)) → Result (List ClassFile) Refusal
+read_all k [] = Ok []
+read_all k (content ∷ contents) = joined (read_at k content) (read_all (k + 1) contents)
 
-  -- ---- each stage has one verdict at most
+-- a short file is judged by its class
+short_read : (k : ℕ) (content : Option (List ℕ)) (bytes : List ℕ) (r : Result ClassFile ClassErr) → content ≡ Some bytes → length bytes ≤ limit → class_at bytes ≡ r → read_at k content ≡ class_by k r
+short_read k content bytes r has short is =
+    let test : nat_lt limit (length bytes) ≡ false = grind (arith, nat_tests) in
+    ap (read_at k) has ∙ ap (λ (b : Bool). if b then Err (TooLong k) else class_by k (class_at bytes)) test ∙ ap (class_by k) is
 
-  one_at_thin : (bytes : List ℕ) (v w : V) → AtThin bytes v → AtThin bytes w → v ≡ w
-  one_at_thin bytes = one_stage _ _ _ (λ v w p q. p.0 ∙ sym q.0) (λ a b p q. refl) (λ v a p t. p.1 t.0 t.1) (λ a v w t p q. p ∙ sym q)
+-- a class file is read
+class_read : (k : ℕ) (content : Option (List ℕ)) (class : ClassFile) → IsClassFile content class → read_at k content ≡ Ok class
+class_read k content class i = short_read k content i.bytes (Ok class) i.has i.short (class_again class i.bytes i.spells)
 
-  one_at_class : (bytes : List ℕ) (v w : V) → AtClass bytes v → AtClass bytes w → v ≡ w
-  one_at_class bytes = one_stage _ _ _
-      (λ v w p q. p.1 ∙ same bytes p.0 q.0 p.2 q.2 ∙ sym q.1)
-      (λ a b p q. refl)
-      (λ v a p c. no_class_refused bytes c.0 p.0 c.1 p.2)
-      (λ a v w c p q. one_at_thin bytes v w p q)
+-- a missing file isn't
+missing_read : (k : ℕ) (content : Option (List ℕ)) → IsMissing content → read_at k content ≡ Err (NoFile k)
+missing_read k content m = ap (read_at k) m
 
-  one_at_length : (bytes : List ℕ) (v w : V) → AtLength bytes v → AtLength bytes w → v ≡ w
-  one_at_length bytes = one_stage _ _ _ (λ v w p q. p.0 ∙ sym q.0) (λ a b p q. refl) (λ v a p s. omega (arith, p.1, s)) (λ a v w s p q. one_at_class bytes v w p q)
+-- nor is a long one
+long_read : (k : ℕ) (content : Option (List ℕ)) → IsLong content → read_at k content ≡ Err (TooLong k)
+long_read k content l =
+    let test : nat_lt limit (length l.bytes) ≡ true = let lt = l.long in grind (arith, nat_tests) in
+    ap (read_at k) l.has ∙ ap (λ (b : Bool). if b then Err (TooLong k) else class_by k (class_at l.bytes)) test
 
-  one_at_file : (fs : Files) (name : List ℕ) (v w : V) → AtFile fs name v → AtFile fs name w → v ≡ w
-  one_at_file fs name = one_stage _ _ _
-      (λ v w p q. p.0 ∙ sym q.0)
-      (λ a b p q. let e : Some a ≡ Some b = sym p ∙ q in cc)
-      (λ v a p s. let e : None ≡ Some a = sym p.1 ∙ s in cc)
-      (λ a v w s p q. one_at_length a v w p q)
+-- nor one that is refused
+refused_read : (k : ℕ) (content : Option (List ℕ)) (why : ClassErr) → IsRefusedFile why content → read_at k content ≡ Err (File k why)
+refused_read k content why r = short_read k content r.bytes (Err why) r.has r.short (refused_comes r.bytes why r.refused)
 
-  one_at_words : (fs : Files) (words : List (List ℕ)) (v w : V) → AtWords fs words v → AtWords fs words w → v ≡ w
-  one_at_words fs words = one_stage _ _ _
-      (λ v w p q. p.0 ∙ sym q.0)
-      (λ a b p q. let e = p.0 in let f = q.0 in cc)
-      (λ v a p r. p.1 a r)
-      (λ a v w r p q. one_at_file fs a v w p q)
+-- class files are read
+classes_read : (k : ℕ) (contents : List (Option (List ℕ))) (classes : List ClassFile) → AreClassFiles contents classes → read_all k contents ≡ Ok classes
+classes_read k [] [] a = refl
+classes_read k [] (c ∷ classes) a = absurd a
+classes_read k (x ∷ contents) [] a = absurd a
+classes_read k (x ∷ contents) (c ∷ classes) a = rw (class_read k x c a.0, classes_read (k + 1) contents classes a.1) refl
 
-  -- ---- each verdict stands at its stage
+-- reading stops where a file is refused, behind class files
+stop_read : (n k : ℕ) (contents : List (Option (List ℕ))) (content : Option (List ℕ)) (classes : List ClassFile) (e : Refusal) → slice_get contents k ≡ Some content → AreClassFiles (take k contents) classes → read_at (n + k) content ≡ Err e → read_all n contents ≡ Err e
+stop_read n k [] content classes e at a r = absurd (let lt = slice_get_within {A = Option (List ℕ)} [] k content at in omega arith)
+stop_read n zero (x ∷ contents) content classes e at a r =
+    let both : Some x ≡ Some content = at in
+    let same : x ≡ content = cc in
+    let first : n ≡ n + 0 = omega arith in
+    let here : read_at n x ≡ Err e = ap (read_at n) same ∙ ap (λ (m : ℕ). read_at m content) first ∙ r in
+    rw here refl
+stop_read n (suc k) (x ∷ contents) content [] e at a r = absurd a
+stop_read n (suc k) (x ∷ contents) content (c ∷ classes) e at a r =
+    let place : (n + 1) + k ≡ n + suc k = omega arith in
+    let later : read_at ((n + 1) + k) content ≡ Err e = ap (λ (m : ℕ). read_at m content) place ∙ r in
+    rw (class_read n x c a.0, stop_read (n + 1) k contents content classes e at a.1 later) refl
 
-  at_words : (fs : Files) (words : List (List ℕ)) (v : Option Refusal) → IsVerdict fs words v → AtWords fs words (see v)
-  at_words fs words None h =
-      let t = h.1.file in
-      inr (h.1.name, h.1.is_run, inr (t.bytes, t.has, inr (tt, t.such.short, inr (tt, is_class t.bytes h.0 t.such.thin, inr (tt, (h.0, t.such.thin), refl)))))
-  at_words fs words (Some Usage) h = inl (refl, h)
-  at_words fs words (Some (NoFile k)) h =
-      inr (h.1.name, h.1.is_run, inl (ap (λ n. see (Some (NoFile n))) h.0, h.1.lacks))
-  at_words fs words (Some (TooLong k)) h =
-      let t = h.1.file in
-      inr (h.1.name, h.1.is_run, inr (t.bytes, t.has, inl (ap (λ n. see (Some (TooLong n))) h.0, t.such)))
-  at_words fs words (Some (File k why)) h =
-      let t = h.1.file in
-      inr (h.1.name, h.1.is_run, inr (t.bytes, t.has, inr (tt, t.such.short, inl (why, ap (λ n. see (Some (File n why))) h.0, t.such.refused))))
-  at_words fs words (Some NotYet) h =
-      let t = h.file in
-      inr (h.name, h.is_run, inr (t.bytes, t.has, inr (tt, t.such.short, inr (tt, t.such.class, inl (refl, t.such.other)))))
-  at_words fs words (Some (ReadFault k)) h = absurd h
-  at_words fs words (Some WriteFault) h = absurd h
-  at_words fs words (Some NoMemory) h = absurd h
+-- ---- the stages
 
-  -- the verdicts of the same files and words are seen as the same
-  one_seen : (fs : Files) (words : List (List ℕ)) (v w : Option Refusal) → IsVerdict fs words v → IsVerdict fs words w → see v ≡ see w
-  one_seen fs words v w p q = one_at_words fs words (see v) (see w) (at_words fs words v p) (at_words fs words w q)
+-- class files are one thin file or aren't
+abbrev AtThin : Option (List ℕ) → List (Option (List ℕ)) → Option Refusal → Type 0
+AtThin main contents = Tests (λ v. (v ≡ Some NotYet) × ((code : ThinCode) → ¬ IsThinProgram code main contents)) (λ (u : Unit {0}). (code : ThinCode) × IsThinProgram code main contents) (λ u v. v ≡ None)
+
+-- files are class files or aren't
+abbrev AtFiles : Option (List ℕ) → List (Option (List ℕ)) → Option Refusal → Type 0
+AtFiles main contents = Tests (λ v. (e : Refusal) × (v ≡ Some e) × (read_all 0 contents ≡ Err e)) (λ classes. read_all 0 contents ≡ Ok classes) (λ classes. AtThin main contents)
+
+-- what there is under the names of the files
+abbrev contents_of : Files → Asked → List (Option (List ℕ))
+contents_of fs a = map (bytes_under fs) a.files
+
+-- the words ask to run files or don't
+abbrev AtWords : Files → List (List ℕ) → Option Refusal → Type 0
+AtWords fs words = Tests (λ v. (v ≡ Some Usage) × IsNoRun words) (IsRun words) (λ a. AtFiles a.main (contents_of fs a))
+
+-- ---- each stage has one verdict at most
+
+one_at_thin : (main : Option (List ℕ)) (contents : List (Option (List ℕ))) (v w : Option Refusal) → AtThin main contents v → AtThin main contents w → v ≡ w
+one_at_thin main contents = one_stage _ _ _ (λ v w p q. p.0 ∙ sym q.0) (λ a b p q. refl) (λ v a p t. p.1 t.0 t.1) (λ a v w t p q. p ∙ sym q)
+
+-- a reading answers one error
+same_error : (r : Result (List ClassFile) Refusal) (d e : Refusal) → r ≡ Err d → r ≡ Err e → d ≡ e
+same_error r d e p q = let both : (let x : Result (List ClassFile) Refusal = Err d in x ≡ Err e) = sym p ∙ q in cc
+
+-- or one list of classes
+same_classes : (r : Result (List ClassFile) Refusal) (d e : List ClassFile) → r ≡ Ok d → r ≡ Ok e → d ≡ e
+same_classes r d e p q = let both : (let x : Result (List ClassFile) Refusal = Ok d in x ≡ Ok e) = sym p ∙ q in cc
+
+-- and not both
+not_both : (r : Result (List ClassFile) Refusal) (e : Refusal) (cs : List ClassFile) → r ≡ Err e → r ≡ Ok cs → ⊥
+not_both r e cs p q = let both : (let x : Result (List ClassFile) Refusal = Err e in x ≡ Ok cs) = sym p ∙ q in absurd cc
+
+one_at_files : (main : Option (List ℕ)) (contents : List (Option (List ℕ))) (v w : Option Refusal) → AtFiles main contents v → AtFiles main contents w → v ≡ w
+one_at_files main contents = one_stage _ _ _
+    (λ v w p q. p.1 ∙ ap (λ (e : Refusal). Some e) (same_error (read_all 0 contents) p.0 q.0 p.2 q.2) ∙ sym q.1)
+    (λ a b p q. same_classes (read_all 0 contents) a b p q)
+    (λ v a p c. not_both (read_all 0 contents) p.0 a p.2 c)
+    (λ a v w c p q. one_at_thin main contents v w p q)
+
+one_at_words : (fs : Files) (words : List (List ℕ)) (v w : Option Refusal) → AtWords fs words v → AtWords fs words w → v ≡ w
+one_at_words fs words = one_stage _ _ _
+    (λ v w p q. p.0 ∙ sym q.0)
+    (λ a b p q. one_run words a b p q)
+    (λ v a p r. p.1 a r)
+    (λ a v w r p q. one_at_files a.main (contents_of fs a) v w p q)
+
+-- ---- each verdict stands at its stage
+
+module _ (fs : Files) (words : List (List ℕ)) where
+  -- of what there is under the names
+  at_names : (P : Option (List ℕ) → List (Option (List ℕ)) → Type 0) (v : Option Refusal) → ((main : Option (List ℕ)) (contents : List (Option (List ℕ))) → P main contents → AtFiles main contents v) → Names (Some fs) words P → AtWords fs words v
+  at_names P v f n = inr (n.asked, n.is_run, subst (λ (contents : List (Option (List ℕ))). AtFiles n.asked.main contents v) n.under (f n.asked.main n.contents n.such))
+
+  -- a file at which reading stops
+  at_stop : (P : Option (List ℕ) → Type 0) (k : ℕ) (e : Refusal) → ((content : Option (List ℕ)) → P content → read_at k content ≡ Err e) → Names (Some fs) words (λ main. StopsAt P k) → AtWords fs words (Some e)
+  at_stop P k e read = at_names (λ main. StopsAt P k) (Some e) (λ main contents s.
+      let place : 0 + k ≡ k = omega arith in
+      inl (e, refl, stop_read 0 k contents s.content s.classes e s.at s.before (ap (λ (m : ℕ). read_at m s.content) place ∙ read s.content s.such)))
+
+  -- one thin file
+  at_thin : (code : ThinCode) (main : Option (List ℕ)) (contents : List (Option (List ℕ))) → IsThinProgram code main contents → AtFiles main contents None
+  at_thin code main contents t =
+      let c = is_class t.bytes code t.thin in
+      let are : AreClassFiles (Some t.bytes ∷ []) (c.0 ∷ []) = (record { bytes = t.bytes; has = refl; short = t.short; spells = c.1 }, tt) in
+      inr (c.0 ∷ [], ap (read_all 0) t.alone ∙ classes_read 0 (Some t.bytes ∷ []) (c.0 ∷ []) are, inr (tt, (code, t), refl))
+
+  at_words : (v : Option Refusal) → IsVerdict (Some fs) words v → AtWords fs words v
+  at_words None h = at_names (IsThinProgram h.0) None (at_thin h.0) h.1
+  at_words (Some Usage) h = inl (refl, h)
+  at_words (Some (NoFile k)) h = at_stop IsMissing k (NoFile k) (missing_read k) h
+  at_words (Some (TooLong k)) h = at_stop IsLong k (TooLong k) (long_read k) h
+  at_words (Some (File k why)) h = at_stop (IsRefusedFile why) k (File k why) (λ content. refused_read k content why) h
+  at_words (Some NotYet) h = at_names IsOtherProgram (Some NotYet) (λ main contents o. inr (o.classes, classes_read 0 contents o.classes o.are, inl (refl, o.other))) h
+  at_words (Some (ReadFault k)) h = absurd h
+  at_words (Some WriteFault) h = absurd h
+  at_words (Some NoMemory) h = absurd h
 
 -- files and words have one verdict at most
-pub one_verdict : (fs : Files) (words : List (List ℕ)) (v w : Option Refusal) → IsVerdict fs words v → IsVerdict fs words w → v ≡ w
-one_verdict = one_seen (λ v. v) (λ bytes d e p q. ap (λ why. Some (File 0 why)) (one_refusal bytes d e p q))
+pub one_verdict : (fs : Files) (words : List (List ℕ)) (v w : Option Refusal) → IsVerdict (Some fs) words v → IsVerdict (Some fs) words w → v ≡ w
+one_verdict fs words v w p q = one_at_words fs words v w (at_words fs words v p) (at_words fs words w q)
 
 -- files and words have one status at most
-pub one_status : (fs : Files) (words : List (List ℕ)) (v w : Option Refusal) → IsVerdict fs words v → IsVerdict fs words w → status_of v ≡ status_of w
-one_status = one_seen status_of (λ bytes d e p q. refl)
+pub one_status : (fs : Files) (words : List (List ℕ)) (v w : Option Refusal) → IsVerdict (Some fs) words v → IsVerdict (Some fs) words w → status_of v ≡ status_of w
+one_status fs words v w p q = ap status_of (one_verdict fs words v w p q)

@@ -11,9 +11,9 @@ use Rattle.one_jvm.specs.declared.outcome.Stop.TheVariants as stop
 use Rattle.one_jvm.specs.declared.outcome.Refusal.{Refusal}
 use Rattle.one_jvm.specs.declared.outcome.Refusal.TheVariants.{Usage, File, NoFile, ReadFault, WriteFault, TooLong, NotYet, NoMemory}
 use Rattle.one_jvm.specs.Words.{IsNoRun}
-use Rattle.one_jvm.specs.Verdicts.{LacksFile, HasLongFile, HasOtherFile, HasRefusedFile, HasThinFile, IsVerdict}
+use Rattle.one_jvm.specs.Verdicts.{LacksFile, HasLongFile, HasOtherFiles, HasRefusedFile, HasThinFile, IsVerdict}
 use Rattle.one_jvm.specs.Outcomes.{status_of}
-use Rattle.one_jvm.specs.Answers.{OfFiles, Faults, IsHindrance, IsHindered, Because, Agrees, OneOf, hindered, Exactly, Answers, IsClosed}
+use Rattle.one_jvm.specs.Answers.{Faults, IsHindrance, IsHindered, Because, Agrees, OneOf, hindered, Exactly, Answers, IsClosed}
 use Rattle.one_jvm.proofs.OneVerdict.{one_status}
 
 -- ---- the causes by their statuses
@@ -29,14 +29,14 @@ data Cause : Type 0 where
   Never : Cause
 
 -- what each says
-abbrev holds : Cause → Files → List (List ℕ) → Type 0
-holds Accepted fs words = HasThinFile fs words
-holds Misused fs words = IsNoRun words
-holds Refused fs words = HasRefusedFile fs words
-holds Missing fs words = LacksFile fs words
-holds Long fs words = HasLongFile fs words
-holds Other fs words = HasOtherFile fs words
-holds Never fs words = ⊥
+abbrev holds : Cause → Option Files → List (List ℕ) → Type 0
+holds Accepted told words = HasThinFile told words
+holds Misused told words = IsNoRun words
+holds Refused told words = HasRefusedFile told words
+holds Missing told words = LacksFile told words
+holds Long told words = HasLongFile told words
+holds Other told words = HasOtherFiles told words
+holds Never told words = ⊥
 
 -- the cause of a status
 abbrev cause_of : ℕ → Cause
@@ -45,49 +45,49 @@ cause_of k =
     if k == 4 then Missing else if k == 11 then Long else if k == 14 then Other else Never
 
 -- a verdict has the cause of its status
-caused : (fs : Files) (words : List (List ℕ)) (v : Option Refusal) → IsVerdict fs words v → holds (cause_of (status_of v)) fs words
-caused fs words None h = h
-caused fs words (Some Usage) h = h
-caused fs words (Some (File k why)) h = (why, h.1)
-caused fs words (Some (NoFile k)) h = h.1
-caused fs words (Some (TooLong k)) h = h.1
-caused fs words (Some NotYet) h = h
-caused fs words (Some (ReadFault k)) h = h
-caused fs words (Some WriteFault) h = h
-caused fs words (Some NoMemory) h = h
+caused : (told : Option Files) (words : List (List ℕ)) (v : Option Refusal) → IsVerdict told words v → holds (cause_of (status_of v)) told words
+caused told words None h = h
+caused told words (Some Usage) h = h
+caused told words (Some (File k why)) h = (k, why, h)
+caused told words (Some (NoFile k)) h = (k, h)
+caused told words (Some (TooLong k)) h = (k, h)
+caused told words (Some NotYet) h = h
+caused told words (Some (ReadFault k)) h = h
+caused told words (Some WriteFault) h = h
+caused told words (Some NoMemory) h = h
 
 -- a hindrance has one of its three statuses
-strikes : (faults : Faults) (e : Refusal) → IsHindrance faults e → OneOf hindered (status_of (Some e))
-strikes faults (ReadFault k) h = inl refl
-strikes faults WriteFault h = inr (inl refl)
-strikes faults NoMemory h = inr (inr (inl refl))
-strikes faults Usage h = absurd h
-strikes faults (File k why) h = absurd h
-strikes faults (NoFile k) h = absurd h
-strikes faults (TooLong k) h = absurd h
-strikes faults NotYet h = absurd h
+strikes : (told : Option Files) (words : List (List ℕ)) (faults : Faults) (e : Refusal) → IsHindrance told words faults e → OneOf hindered (status_of (Some e))
+strikes told words faults (ReadFault k) h = inl refl
+strikes told words faults WriteFault h = inr (inl refl)
+strikes told words faults NoMemory h = inr (inr (inl refl))
+strikes told words faults Usage h = absurd h
+strikes told words faults (File k why) h = absurd h
+strikes told words faults (NoFile k) h = absurd h
+strikes told words faults (TooLong k) h = absurd h
+strikes told words faults NotYet h = absurd h
 
 -- a read fault's count rose
-read_rose : (faults : Faults) (e : Refusal) → IsHindrance faults e → status_of (Some e) ≡ 5 → Rose faults.read_before faults.read_now
-read_rose faults (ReadFault k) h e = h.1
-read_rose faults WriteFault h e = absurd (omega arith)
-read_rose faults NoMemory h e = absurd (omega arith)
-read_rose faults Usage h e = absurd h
-read_rose faults (File k why) h e = absurd h
-read_rose faults (NoFile k) h e = absurd h
-read_rose faults (TooLong k) h e = absurd h
-read_rose faults NotYet h e = absurd h
+read_rose : (told : Option Files) (words : List (List ℕ)) (faults : Faults) (e : Refusal) → IsHindrance told words faults e → status_of (Some e) ≡ 5 → Rose faults.read_before faults.read_now
+read_rose told words faults (ReadFault k) h e = h.rose
+read_rose told words faults WriteFault h e = absurd (omega arith)
+read_rose told words faults NoMemory h e = absurd (omega arith)
+read_rose told words faults Usage h e = absurd h
+read_rose told words faults (File k why) h e = absurd h
+read_rose told words faults (NoFile k) h e = absurd h
+read_rose told words faults (TooLong k) h e = absurd h
+read_rose told words faults NotYet h e = absurd h
 
 -- a write fault's count rose
-write_rose : (faults : Faults) (e : Refusal) → IsHindrance faults e → status_of (Some e) ≡ 6 → Rose faults.wrote_before faults.wrote_now
-write_rose faults (ReadFault k) h e = absurd (omega arith)
-write_rose faults WriteFault h e = h
-write_rose faults NoMemory h e = absurd (omega arith)
-write_rose faults Usage h e = absurd h
-write_rose faults (File k why) h e = absurd h
-write_rose faults (NoFile k) h e = absurd h
-write_rose faults (TooLong k) h e = absurd h
-write_rose faults NotYet h e = absurd h
+write_rose : (told : Option Files) (words : List (List ℕ)) (faults : Faults) (e : Refusal) → IsHindrance told words faults e → status_of (Some e) ≡ 6 → Rose faults.wrote_before faults.wrote_now
+write_rose told words faults (ReadFault k) h e = absurd (omega arith)
+write_rose told words faults WriteFault h e = h
+write_rose told words faults NoMemory h e = absurd (omega arith)
+write_rose told words faults Usage h e = absurd h
+write_rose told words faults (File k why) h e = absurd h
+write_rose told words faults (NoFile k) h e = absurd h
+write_rose told words faults (TooLong k) h e = absurd h
+write_rose told words faults NotYet h e = absurd h
 
 -- the number is one of these
 abbrev has : List ℕ → ℕ → Bool
@@ -100,6 +100,18 @@ apart [] k e o = o
 apart (n ∷ ns) k e (inl p) =
     let q : false ≡ true = sym (or_parts (k == n) (has ns k) e).0 ∙ eq-eqb k n p in absurd cc
 apart (n ∷ ns) k e (inr o) = apart ns k (or_parts (k == n) (has ns k) e).1 o
+
+-- words that are no command have their verdict
+no_run : (told : Option Files) (words : List (List ℕ)) (v : Option Refusal) → IsNoRun words → IsVerdict told words v → v ≡ Some Usage
+no_run told words None n h = absurd (n h.1.asked h.1.is_run)
+no_run told words (Some Usage) n h = refl
+no_run told words (Some (File k why)) n h = absurd (n h.asked h.is_run)
+no_run told words (Some (NoFile k)) n h = absurd (n h.asked h.is_run)
+no_run told words (Some (TooLong k)) n h = absurd (n h.asked h.is_run)
+no_run told words (Some NotYet) n h = absurd (n h.asked h.is_run)
+no_run told words (Some (ReadFault k)) n h = absurd h
+no_run told words (Some WriteFault) n h = absurd h
+no_run told words (Some NoMemory) n h = absurd h
 
 -- ---- as the call knows them
 
@@ -118,29 +130,25 @@ module _ (words : List (List ℕ)) (told : Option Files) (faults : Faults) (plai
   shows = ⊎_elim (λ e. inl (s ∙ ap status_of e)) (λ e. inr (s ∙ ap status_of e)) h
 
   -- the status of a hindered call is one of three
-  when_hindered : IsHindered words faults plain → OneOf hindered (status_of plain)
-  when_hindered x = subst (λ (r : Option Refusal). OneOf hindered (status_of r)) (sym x.shows) (strikes faults x.hindrance x.strikes)
-
-  -- the files that are told are those that are meant
-  meant : (fs : Files) → told ≡ Some fs → (o : OfFiles told (λ gs. IsVerdict gs words plain)) → o.files ≡ fs
-  meant fs t o = sym (subst (λ (x : Option Files). IfSome x (λ gs. gs ≡ o.files)) t o.agree)
+  when_hindered : IsHindered told words faults plain → OneOf hindered (status_of plain)
+  when_hindered x = subst (λ (r : Option Refusal). OneOf hindered (status_of r)) (sym x.shows) (strikes told words faults x.hindrance x.strikes)
 
   -- a verdict's cause, where the status is the plain refusal's
-  of_verdict : (k : ℕ) (fs : Files) → IsVerdict fs words plain → status_of plain ≡ k → holds (cause_of k) fs words
-  of_verdict k fs v e = subst (λ (n : ℕ). holds (cause_of n) fs words) e (caused fs words plain v)
+  of_verdict : (k : ℕ) → IsVerdict told words plain → status_of plain ≡ k → holds (cause_of k) told words
+  of_verdict k v e = subst (λ (n : ℕ). holds (cause_of n) told words) e (caused told words plain v)
 
   -- a status that no hindrance has comes exactly with its cause
-  answers : (k : ℕ) → (OneOf hindered k → ⊥) → ((fs : Files) → holds (cause_of k) fs words → (v : Option Refusal) × IsVerdict fs words v × (status_of v ≡ k)) → Answers told words status k (holds (cause_of k))
+  answers : (k : ℕ) → (OneOf hindered k → ⊥) → ((fs : Files) → holds (cause_of k) (Some fs) words → (v : Option Refusal) × IsVerdict (Some fs) words v × (status_of v ≡ k)) → Answers told words status k (holds (cause_of k))
   answers k apart back fs t = record {
     only = λ e. ⊎_elim
         (λ p. ⊎_elim
-        (λ o. subst (λ (gs : Files). holds (cause_of k) gs words) (meant fs t o) (of_verdict k o.files o.such (sym p ∙ e)))
+        (λ v. subst (λ (x : Option Files). holds (cause_of k) x words) t (of_verdict k v (sym p ∙ e)))
         (λ x. absurd (apart (subst (OneOf hindered) (sym p ∙ e) (when_hindered x)))) b)
         (λ p. absurd (apart (inr (inl (sym e ∙ p))))) shows;
     always = λ c. ⊎_elim
         (λ p. ⊎_elim
         (λ o.
-        let v = subst (λ (gs : Files). IsVerdict gs words plain) (meant fs t o) o.such in
+        let v = subst (λ (x : Option Files). IsVerdict x words plain) t o in
         let r = back fs c in
         inl (p ∙ one_status fs words plain r.0 v r.1 ∙ r.2))
         (λ x. inr (subst (OneOf hindered) (sym p) (when_hindered x))) b)
@@ -148,15 +156,15 @@ module _ (words : List (List ℕ)) (told : Option Files) (faults : Faults) (plai
   }
 
   pub refused : Answers told words status 3 HasRefusedFile
-  refused = answers 3 (apart hindered 3 refl) (λ fs r. (Some (File 0 r.0), (refl, r.1), refl))
+  refused = answers 3 (apart hindered 3 refl) (λ fs r. (Some (File r.0 r.1), r.2, refl))
 
   pub no_file : Answers told words status 4 LacksFile
-  no_file = answers 4 (apart hindered 4 refl) (λ fs l. (Some (NoFile 0), (refl, l), refl))
+  no_file = answers 4 (apart hindered 4 refl) (λ fs l. (Some (NoFile l.0), l.1, refl))
 
   pub too_long : Answers told words status 11 HasLongFile
-  too_long = answers 11 (apart hindered 11 refl) (λ fs l. (Some (TooLong 0), (refl, l), refl))
+  too_long = answers 11 (apart hindered 11 refl) (λ fs l. (Some (TooLong l.0), l.1, refl))
 
-  pub not_yet : Answers told words status 14 HasOtherFile
+  pub not_yet : Answers told words status 14 HasOtherFiles
   not_yet = answers 14 (apart hindered 14 refl) (λ fs o. (Some NotYet, o, refl))
 
   pub ended : Answers told words status 0 HasThinFile
@@ -167,12 +175,12 @@ module _ (words : List (List ℕ)) (told : Option Files) (faults : Faults) (plai
   usage = record {
     only = λ e. ⊎_elim
         (λ p. ⊎_elim
-        (λ o. of_verdict 2 o.files o.such (sym p ∙ e))
+        (λ o. of_verdict 2 o (sym p ∙ e))
         (λ x. absurd (apart hindered 2 refl (subst (OneOf hindered) (sym p ∙ e) (when_hindered x)))) b)
         (λ p. absurd (apart hindered 2 refl (inr (inl (sym e ∙ p))))) shows;
     always = λ n. ⊎_elim
         (λ p. ⊎_elim
-        (λ o. inl (p ∙ one_status o.files words plain (Some Usage) o.such n))
+        (λ o. inl (p ∙ ap status_of (no_run told words plain n o)))
         (λ x. absurd (n x.is_run.0 x.is_run.1)) b)
         (λ p. inr (inl p)) shows;
   }
@@ -181,15 +189,15 @@ module _ (words : List (List ℕ)) (told : Option Files) (faults : Faults) (plai
   pub read_fault : status ≡ 5 → Rose faults.read_before faults.read_now
   read_fault e = ⊎_elim
       (λ p. ⊎_elim
-      (λ o. absurd (of_verdict 5 o.files o.such (sym p ∙ e)))
-      (λ x. read_rose faults x.hindrance x.strikes (ap status_of (sym x.shows) ∙ sym p ∙ e)) b)
+      (λ o. absurd (of_verdict 5 o (sym p ∙ e)))
+      (λ x. read_rose told words faults x.hindrance x.strikes (ap status_of (sym x.shows) ∙ sym p ∙ e)) b)
       (λ p. absurd (let q : 5 ≡ 6 = sym e ∙ p in omega (arith, q))) shows
 
   -- a write fault of the plain refusal has its cause
   pub write_fault : status_of plain ≡ 6 → Rose faults.wrote_before faults.wrote_now
   write_fault e = ⊎_elim
-      (λ o. absurd (of_verdict 6 o.files o.such e))
-      (λ x. write_rose faults x.hindrance x.strikes (ap status_of (sym x.shows) ∙ e)) b
+      (λ o. absurd (of_verdict 6 o e))
+      (λ x. write_rose told words faults x.hindrance x.strikes (ap status_of (sym x.shows) ∙ e)) b
 
 -- a write fault has its cause, at standard output or at standard error
 pub any_write_fault : (words : List (List ℕ)) (told : Option Files) (faults : Faults) (name : List ℕ) (plain refusal : Option Refusal) (before now : Showing) (status : ℕ)

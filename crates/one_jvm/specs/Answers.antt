@@ -1,6 +1,5 @@
 -- Why a call answers what it answers.
 use Rattle.std.specs.Prelude.{◌≡◌, ◌≢◌, ◌⊎◌, ℕ, List, [], ◌∷◌, Option, Some, None}
-use Rattle.std.specs.Option.{IfSome}
 use Rattle.std.specs.Io.KnownBytes.{Appends}
 use Rattle.cjvm_io.specs.Faults.{Rose}
 use Rattle.cjvm_io.specs.Shelves.{Files}
@@ -11,22 +10,10 @@ use Rattle.one_jvm.specs.declared.outcome.Stop.{Stop}
 use Rattle.one_jvm.specs.declared.outcome.Stop.TheVariants as stop
 use Rattle.one_jvm.specs.declared.outcome.Refusal.{Refusal}
 use Rattle.one_jvm.specs.declared.outcome.Refusal.TheVariants.{Usage, File, NoFile, ReadFault, WriteFault, TooLong, NotYet, NoMemory}
-use Rattle.one_jvm.specs.Words.{IsSomeRun, name_of}
-use Rattle.one_jvm.specs.Verdicts.{IsVerdict, HasFile, IsThinFile}
-use Rattle.one_jvm.specs.Outcomes.{report}
+use Rattle.one_jvm.specs.Words.{Asked, IsRun, IsSomeRun, name_at}
+use Rattle.one_jvm.specs.Verdicts.{Names, StopsFor, IsThinProgram, IsVerdict}
+use Rattle.one_jvm.specs.Outcomes.{place_of, report}
 use Rattle.one_jvm.specs.Runs.{RanTo}
-
--- ---- which files are meant
-
--- where the shelf tells its files
-abbrev pub IfTold : Option Files → (Files → Type 0) → Type 0
-IfTold told P = (fs : Files) → told ≡ Some fs → P fs
-
--- P holds of the files that the shelf tells, or of some files where it tells none
-pub record OfFiles (told : Option Files) (P : Files → Type 0) : Type 0 where
-  pub files : Files
-  pub agree : IfSome told (λ fs. fs ≡ files)
-  pub such : P files
 
 -- ---- the cause of a refusal, apart from faults of standard error
 
@@ -46,29 +33,40 @@ the_faults read_before read_now wrote_before wrote_now = record {
   wrote_now = wrote_now;
 }
 
--- a fault of the shelf or of standard output, or want of memory, which may come at any time
-abbrev pub IsHindrance : Faults → Refusal → Type 0
-IsHindrance faults (ReadFault k) = (k ≡ 0) × Rose faults.read_before faults.read_now
-IsHindrance faults WriteFault = Rose faults.wrote_before faults.wrote_now
-IsHindrance faults NoMemory = Unit {0}
-IsHindrance faults Usage = ⊥
-IsHindrance faults (File k why) = ⊥
-IsHindrance faults (NoFile k) = ⊥
-IsHindrance faults (TooLong k) = ⊥
-IsHindrance faults NotYet = ⊥
+-- whatever there is
+abbrev pub IsAny : Option (List ℕ) → Type 0
+IsAny content = Unit {0}
 
--- a hindrance kept the call from its verdict; it comes only where the words ask to run a file
-pub record IsHindered (words : List (List ℕ)) (faults : Faults) (refusal : Option Refusal)
+-- the read of a file failed, behind files that are class files
+pub record IsUnread (told : Option Files) (words : List (List ℕ)) (before now k : ℕ)
     : Type 0 where
+  pub rose : Rose before now
+  pub stops : StopsFor IsAny k told words
+
+-- a fault of the shelf or of standard output, or want of memory, which may come at any time
+abbrev pub IsHindrance : Option Files → List (List ℕ) → Faults → Refusal → Type 0
+IsHindrance told words faults (ReadFault k) =
+    IsUnread told words faults.read_before faults.read_now k
+IsHindrance told words faults WriteFault = Rose faults.wrote_before faults.wrote_now
+IsHindrance told words faults NoMemory = Unit {0}
+IsHindrance told words faults Usage = ⊥
+IsHindrance told words faults (File k why) = ⊥
+IsHindrance told words faults (NoFile k) = ⊥
+IsHindrance told words faults (TooLong k) = ⊥
+IsHindrance told words faults NotYet = ⊥
+
+-- a hindrance kept the call from its verdict; it comes only where the words ask to run files
+pub record IsHindered (told : Option Files) (words : List (List ℕ)) (faults : Faults)
+    (refusal : Option Refusal) : Type 0 where
   pub is_run : IsSomeRun words
   pub hindrance : Refusal
-  pub strikes : IsHindrance faults hindrance
+  pub strikes : IsHindrance told words faults hindrance
   pub shows : refusal ≡ Some hindrance
 
 -- what holds where a call is refused so, or isn't refused
 abbrev pub Because : List (List ℕ) → Option Files → Faults → Option Refusal → Type 0
 Because words told faults refusal =
-    OfFiles told (λ fs. IsVerdict fs words refusal) ⊎ IsHindered words faults refusal
+    IsVerdict told words refusal ⊎ IsHindered told words faults refusal
 
 -- ---- the order, and what standard output gained
 
@@ -77,8 +75,7 @@ abbrev pub Ran : List (List ℕ) → Option Files → Showing → Showing → Li
     → Type 0
 Ran words told before now order None = order ≡ []
 Ran words told before now order (Some s) =
-    (code : ThinCode) × OfFiles told (λ fs. HasFile (IsThinFile code) fs words)
-    × RanTo code order before now s
+    (code : ThinCode) × Names told words (IsThinProgram code) × RanTo code order before now s
 
 -- the end of a run is the refusal's, where there is one
 abbrev pub refusal_of : Stop → Option Refusal
@@ -86,7 +83,7 @@ refusal_of stop.Done = None
 refusal_of stop.WriteFault = Some WriteFault
 refusal_of stop.NoMemory = Some NoMemory
 
--- a run was begun exactly where the file was read and is thin, want of memory aside
+-- a run was begun exactly where the files were read and are one thin file, want of memory aside
 abbrev pub Agrees : Option Stop → Option Refusal → Type 0
 Agrees (Some s) refusal = refusal ≡ refusal_of s
 Agrees None refusal = (refusal ≢ None) × (refusal ≢ Some WriteFault)
@@ -100,13 +97,22 @@ IsClosed name plain before now refusal =
     ⊎ ((refusal ≡ Some WriteFault) × Rose before.faults now.faults
     × GainsFront before.held now.held (report name plain))
 
+-- the file that the refusal names by its place has this name
+abbrev pub IsNamed : List (List ℕ) → Option Refusal → List ℕ → Type 0
+IsNamed words None name = Unit {0}
+IsNamed words (Some e) name =
+    (asked : Asked) (k : ℕ) → IsRun words asked → place_of e ≡ Some k
+    → name ≡ name_at asked.files k
+
 -- a refusal with this cause, in accord with the run, was reported
 pub record Reports (words : List (List ℕ)) (told : Option Files) (faults : Faults)
     (before now : Showing) (stop : Option Stop) (refusal : Option Refusal) : Type 0 where
   pub plain : Option Refusal
+  pub name : List ℕ
   pub cause : Because words told faults plain
   pub agrees : Agrees stop plain
-  pub closed : IsClosed (name_of words) plain before now refusal
+  pub named : IsNamed words plain name
+  pub closed : IsClosed name plain before now refusal
 
 -- ---- statuses
 
@@ -124,7 +130,13 @@ pub record Exactly (status k : ℕ) (others : List ℕ) (cause : Type 0) : Type 
   pub only : status ≡ k → cause
   pub always : cause → OneOf (k ∷ others) status
 
--- the status comes exactly with this cause among the files that are told, faults and want of memory aside
-abbrev pub Answers : Option Files → List (List ℕ) → ℕ → ℕ → (Files → List (List ℕ) → Type 0)
-    → Type 0
-Answers told words status k cause = IfTold told (λ fs. Exactly status k hindered (cause fs words))
+-- where the shelf tells its files
+abbrev pub IfTold : Option Files → (Files → Type 0) → Type 0
+IfTold told P = (fs : Files) → told ≡ Some fs → P fs
+
+-- the status comes exactly with this cause among the files that are told, faults and want of memory
+-- aside
+abbrev pub Answers : Option Files → List (List ℕ) → ℕ → ℕ
+    → (Option Files → List (List ℕ) → Type 0) → Type 0
+Answers told words status k cause =
+    IfTold told (λ fs. Exactly status k hindered (cause (Some fs) words))

@@ -16,7 +16,15 @@ status_of (Some (TooLong k)) = 11
 status_of (Some NotYet) = 14
 status_of (Some NoMemory) = 20
 
--- what is written to standard error; the name is that of the file
+-- the place of the file that a refusal names
+abbrev pub place_of : Refusal → Option ℕ
+place_of (File k why) = Some k
+place_of (NoFile k) = Some k
+place_of (ReadFault k) = Some k
+place_of (TooLong k) = Some k
+place_of _ = None
+
+-- what is written to standard error; the name is that of the file at the refusal's place
 abbrev pub report : List ℕ → Option Refusal → List ℕ
 report name None = []
 report name (Some Usage) = codes "cjvm: usage" ++ 10 ∷ []

@@ -1,3 +1,4 @@
 -- What stands between the steps of a call: these words serve proofs alone.
 pub mod Loading
+pub mod Parts
 pub mod RunSteps

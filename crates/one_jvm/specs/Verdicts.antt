@@ -1,5 +1,6 @@
 -- What a call comes to, by its words and the files, where no fault strikes and memory lasts.
-use Rattle.std.specs.Prelude.{◌≡◌, ℕ, ◌<◌, ◌≤◌, List, length, Option, Some, None}
+use Rattle.std.specs.Prelude.{◌≡◌, ℕ, ◌<◌, ◌≤◌, List, [], ◌∷◌, length, take, map, slice_get, Option, Some, None}
+use Rattle.std.specs.List.{AllByRecursion}
 use Rattle.cjvm_io.specs.Shelves.{Files, bytes_under}
 use Rattle.class_format.specs.declared.class.ClassFile.{ClassFile}
 use Rattle.class_format.specs.Meaning.{Spells}
@@ -9,89 +10,125 @@ use Rattle.thin_file.specs.declared.thin.ThinCode.{ThinCode}
 use Rattle.thin_file.specs.Thin.{IsThin}
 use Rattle.one_jvm.specs.declared.outcome.Refusal.{Refusal}
 use Rattle.one_jvm.specs.declared.outcome.Refusal.TheVariants.{Usage, File, NoFile, ReadFault, WriteFault, TooLong, NotYet, NoMemory}
-use Rattle.one_jvm.specs.Words.{IsRun, IsNoRun}
+use Rattle.one_jvm.specs.Words.{Asked, IsRun, IsNoRun}
 
 -- a class file has at most 1,048,576 bytes
 abbrev pub limit : ℕ
 limit = 1048576
 
--- ---- what bytes are
+-- ---- what there is under a name: bytes, or no file
 
--- they spell a class file
-abbrev pub IsClassFile : List ℕ → Type 0
-IsClassFile bytes = (c : ClassFile) × Spells c bytes
+-- no file
+abbrev pub IsMissing : Option (List ℕ) → Type 0
+IsMissing content = content ≡ None
 
--- they are no thin file
-abbrev pub IsOther : List ℕ → Type 0
-IsOther bytes = (code : ThinCode) → ¬ IsThin bytes code
-
--- more than a class file may have
-abbrev pub IsLong : List ℕ → Type 0
-IsLong bytes = limit < length bytes
+-- more bytes than a class file may have
+pub record IsLong (content : Option (List ℕ)) : Type 0 where
+  pub bytes : List ℕ
+  pub has : content ≡ Some bytes
+  pub long : limit < length bytes
 
 -- no class file, with its refusal
-pub record IsRefusedFile (why : ClassErr) (bytes : List ℕ) : Type 0 where
+pub record IsRefusedFile (why : ClassErr) (content : Option (List ℕ)) : Type 0 where
+  pub bytes : List ℕ
+  pub has : content ≡ Some bytes
   pub short : length bytes ≤ limit
   pub refused : IsRefused bytes why
 
--- a class file, but no thin one
-pub record IsOtherFile (bytes : List ℕ) : Type 0 where
+-- the file of this class
+pub record IsClassFile (content : Option (List ℕ)) (class : ClassFile) : Type 0 where
+  pub bytes : List ℕ
+  pub has : content ≡ Some bytes
   pub short : length bytes ≤ limit
-  pub class : IsClassFile bytes
-  pub other : IsOther bytes
+  pub spells : Spells class bytes
 
--- a thin file, which is a class file (thin_is_class), with its program
-pub record IsThinFile (code : ThinCode) (bytes : List ℕ) : Type 0 where
+-- ---- what there is under the names of a call, in their order
+
+-- the files of these classes, one by one
+abbrev pub AreClassFiles : List (Option (List ℕ)) → List ClassFile → Type 0
+AreClassFiles [] [] = Unit {0}
+AreClassFiles [] (class ∷ classes) = ⊥
+AreClassFiles (content ∷ contents) [] = ⊥
+AreClassFiles (content ∷ contents) (class ∷ classes) =
+    IsClassFile content class × AreClassFiles contents classes
+
+-- reading stops at the place k: what is there has P, and before it are class files
+pub record StopsAt (P : Option (List ℕ) → Type 0) (k : ℕ) (contents : List (Option (List ℕ)))
+    : Type 0 where
+  pub content : Option (List ℕ)
+  pub at : slice_get contents k ≡ Some content
+  pub such : P content
+  pub classes : List ClassFile
+  pub before : AreClassFiles (take k contents) classes
+
+-- one thin file with this program
+pub record IsThinProgram (code : ThinCode) (main : Option (List ℕ))
+    (contents : List (Option (List ℕ))) : Type 0 where
+  pub plain : main ≡ None
+  pub bytes : List ℕ
+  pub alone : contents ≡ Some bytes ∷ []
   pub short : length bytes ≤ limit
   pub thin : IsThin bytes code
 
+-- class files, but not one thin file alone
+pub record IsOtherProgram (main : Option (List ℕ)) (contents : List (Option (List ℕ)))
+    : Type 0 where
+  pub classes : List ClassFile
+  pub are : AreClassFiles contents classes
+  pub other : (code : ThinCode) → ¬ IsThinProgram code main contents
+
 -- ---- what the files are to the words
 
--- the file of this name has bytes with P
-pub record IsUnder (fs : Files) (name : List ℕ) (P : List ℕ → Type 0) : Type 0 where
-  pub bytes : List ℕ
-  pub has : bytes_under fs name ≡ Some bytes
-  pub such : P bytes
+-- what there is under the names: that which the shelf tells, or anything where it tells nothing
+abbrev pub AreUnder : Option Files → List (List ℕ) → List (Option (List ℕ)) → Type 0
+AreUnder None names contents = length contents ≡ length names
+AreUnder (Some fs) names contents = contents ≡ map (bytes_under fs) names
 
--- the words name a file whose bytes have P
-pub record HasFile (P : List ℕ → Type 0) (fs : Files) (words : List (List ℕ)) : Type 0 where
-  pub name : List ℕ
-  pub is_run : IsRun words name
-  pub file : IsUnder fs name P
+-- the words ask to run files, and what there is under their names has P, for this main class
+pub record Names (told : Option Files) (words : List (List ℕ))
+    (P : Option (List ℕ) → List (Option (List ℕ)) → Type 0) : Type 0 where
+  pub asked : Asked
+  pub is_run : IsRun words asked
+  pub contents : List (Option (List ℕ))
+  pub under : AreUnder told asked.files contents
+  pub such : P asked.main contents
 
--- there is no file of the name
-pub record LacksFile (fs : Files) (words : List (List ℕ)) : Type 0 where
-  pub name : List ℕ
-  pub is_run : IsRun words name
-  pub lacks : bytes_under fs name ≡ None
+-- of the words' files that at the place k stops the reading, for P
+abbrev pub StopsFor : (Option (List ℕ) → Type 0) → ℕ → Option Files → List (List ℕ) → Type 0
+StopsFor P k told words = Names told words (λ main contents. StopsAt P k contents)
 
--- the file is longer than a class file may be
-abbrev pub HasLongFile : Files → List (List ℕ) → Type 0
-HasLongFile = HasFile IsLong
+-- a file isn't there
+abbrev pub LacksFile : Option Files → List (List ℕ) → Type 0
+LacksFile told words = (k : ℕ) × StopsFor IsMissing k told words
 
--- a class file, but no thin one
-abbrev pub HasOtherFile : Files → List (List ℕ) → Type 0
-HasOtherFile = HasFile IsOtherFile
+-- a file is longer than a class file may be
+abbrev pub HasLongFile : Option Files → List (List ℕ) → Type 0
+HasLongFile told words = (k : ℕ) × StopsFor IsLong k told words
 
--- no class file, whatever its refusal
-abbrev pub HasRefusedFile : Files → List (List ℕ) → Type 0
-HasRefusedFile fs words = (why : ClassErr) × HasFile (IsRefusedFile why) fs words
+-- a file is no class file, whatever its refusal
+abbrev pub HasRefusedFile : Option Files → List (List ℕ) → Type 0
+HasRefusedFile told words =
+    (k : ℕ) × (why : ClassErr) × StopsFor (IsRefusedFile why) k told words
 
--- a thin file, whatever its program
-abbrev pub HasThinFile : Files → List (List ℕ) → Type 0
-HasThinFile fs words = (code : ThinCode) × HasFile (IsThinFile code) fs words
+-- all are class files, but not one thin file alone
+abbrev pub HasOtherFiles : Option Files → List (List ℕ) → Type 0
+HasOtherFiles told words = Names told words IsOtherProgram
+
+-- one thin file, whatever its program
+abbrev pub HasThinFile : Option Files → List (List ℕ) → Type 0
+HasThinFile told words = (code : ThinCode) × Names told words (IsThinProgram code)
 
 -- ---- the verdict
 
 -- this is the verdict of the files and words: how the call is refused, or None where the program is
 -- accepted; there is one at most (verdict_is_one)
-abbrev pub IsVerdict : Files → List (List ℕ) → Option Refusal → Type 0
-IsVerdict fs words None = HasThinFile fs words
-IsVerdict fs words (Some Usage) = IsNoRun words
-IsVerdict fs words (Some (NoFile k)) = (k ≡ 0) × LacksFile fs words
-IsVerdict fs words (Some (TooLong k)) = (k ≡ 0) × HasLongFile fs words
-IsVerdict fs words (Some (File k why)) = (k ≡ 0) × HasFile (IsRefusedFile why) fs words
-IsVerdict fs words (Some NotYet) = HasOtherFile fs words
-IsVerdict fs words (Some (ReadFault k)) = ⊥
-IsVerdict fs words (Some WriteFault) = ⊥
-IsVerdict fs words (Some NoMemory) = ⊥
+abbrev pub IsVerdict : Option Files → List (List ℕ) → Option Refusal → Type 0
+IsVerdict told words None = HasThinFile told words
+IsVerdict told words (Some Usage) = IsNoRun words
+IsVerdict told words (Some (NoFile k)) = StopsFor IsMissing k told words
+IsVerdict told words (Some (TooLong k)) = StopsFor IsLong k told words
+IsVerdict told words (Some (File k why)) = StopsFor (IsRefusedFile why) k told words
+IsVerdict told words (Some NotYet) = HasOtherFiles told words
+IsVerdict told words (Some (ReadFault k)) = ⊥
+IsVerdict told words (Some WriteFault) = ⊥
+IsVerdict told words (Some NoMemory) = ⊥

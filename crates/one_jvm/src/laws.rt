@@ -1,6 +1,6 @@
 //! Laws above the definitions.
 
-ghost use Rattle.std.specs.Prelude.{◌≡◌, ℕ, List, Option};
+ghost use Rattle.std.specs.Prelude.{◌≡◌, ℕ, List, Option, Some};
 ghost use Rattle.cjvm_io.specs.Shelves.{Files};
 ghost use Rattle.one_jvm.specs.declared.outcome.Refusal.{Refusal as Refused};
 ghost use Rattle.one_jvm.specs.Outcomes.{status_of};
@@ -9,7 +9,7 @@ ghost use Rattle.one_jvm.specs.Verdicts.{IsVerdict};
 /// Files and words have one verdict at most, and so one status.
 pub fn verdict_is_one()
     ensures one { (fs : Files) (words : List (List ℕ)) (v w : Option Refused)
-        → IsVerdict fs words v → IsVerdict fs words w → v ≡ w }
+        → IsVerdict (Some fs) words v → IsVerdict (Some fs) words w → v ≡ w }
     ensures status { (fs : Files) (words : List (List ℕ)) (v w : Option Refused)
-        → IsVerdict fs words v → IsVerdict fs words w → status_of v ≡ status_of w }
+        → IsVerdict (Some fs) words v → IsVerdict (Some fs) words w → status_of v ≡ status_of w }
 {}

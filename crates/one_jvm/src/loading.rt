@@ -1,35 +1,101 @@
-//! The file of a call, read and accepted.
+//! The files of a call, read and accepted.
 
-ghost use Rattle.std.specs.Prelude.{◌≡◌, ◌≤◌, MatchResult};
-ghost use Rattle.thin_file.specs.Thin.{IsThin};
-ghost use Rattle.one_jvm.specs.Verdicts.{IsClassFile};
-ghost use Rattle.one_jvm.specs.Steps.Loading.{Loaded, RefusesFile};
+ghost use Rattle.std.specs.Prelude.{◌≡◌, ◌≤◌, length, MatchResult};
+ghost use Rattle.class_format.specs.Meaning.{Spells};
+ghost use Rattle.one_jvm.specs.Steps.Parts.{asked_by};
+ghost use Rattle.one_jvm.specs.Steps.Loading.{RefusesBytes, ReadsFile, Loads, IsAccepted, IsNotRun, Programs};
 
 use crate::outcome::Refusal;
+use crate::words::Request;
 use cjvm_io::{Shelf, ShelfErr};
 use class_file::{ClassErr, read_class};
+use class_format::ClassFile;
+use jvm_base::List;
 use std::alloc::Global;
 use thin_file::{ThinCode, ThinErr, read_thin};
 
 /// The greatest length of a class file, in bytes.
 const CLASS_FILE_LIMIT: u64 = 1_048_576;
 
-/// Whether the bytes are a class file, and why they are none otherwise.
-fn judge_class(alloc: Global, bytes: &[u8]) -> Result<(), Refusal>
-    ensures { MatchResult result (λ _. IsClassFile bytes.now) (RefusesFile bytes.now) }
+/// The class files of a call in order, and the bytes of the last one.
+#[derive(Drop)]
+struct Loaded {
+    classes: List<ClassFile>,
+    bytes: Vec<u8>,
+}
+
+/// The class file that the bytes of the file at a place are.
+fn class_of(alloc: Global, file: u32, bytes: &[u8]) -> Result<ClassFile, Refusal>
+    ensures { MatchResult result (λ class. Spells class bytes.now) (RefusesBytes file bytes.now) }
 {
     match read_class(alloc, bytes) {
-        Ok(_) => Ok(()),
+        Ok(class) => Ok(class),
         Err(ClassErr::NoMemory) => Err(Refusal::NoMemory),
-        Err(why) => Err(Refusal::File { file: 0, why }),
+        Err(why) => Err(Refusal::File { file, why }),
     }
 }
 
-/// The program that a class file has, or why it isn't run.
-fn program_of(alloc: Global, bytes: &[u8]) -> Result<ThinCode, Refusal>
-    requires { IsClassFile bytes.now }
-    ensures { MatchResult result (IsThin bytes.now) (RefusesFile bytes.now) }
+/// The class file with its bytes.
+fn with_class(alloc: Global, file: u32, bytes: Vec<u8>) -> Result<(ClassFile, Vec<u8>), Refusal>
+    ensures { MatchResult result (λ r. Spells r.0 bytes.items × (r.1.items ≡ bytes.items))
+        (RefusesBytes file bytes.items) }
 {
+    let class = class_of(alloc, file, bytes.as_slice())?;
+    Ok((class, bytes))
+}
+
+/// The class file of a name, at a place among those of the call, with its bytes.
+fn read_file<S: Shelf>(
+    alloc: Global,
+    shelf: &mut S,
+    file: u32,
+    name: &str,
+) -> Result<(ClassFile, Vec<u8>), Refusal>
+    ensures files { S.files shelf.new ≡ S.files shelf.old }
+    ensures later { S.faults shelf.old ≤ S.faults shelf.new }
+    ensures answer { ReadsFile (λ v. v.items) (S.files shelf.old) name.now file
+        (S.faults shelf.old) (S.faults shelf.new) result }
+{
+    match shelf.read_file(alloc, name, CLASS_FILE_LIMIT) {
+        Ok(bytes) => with_class(alloc, file, bytes),
+        Err(ShelfErr::NotThere) => Err(Refusal::NoFile(file)),
+        Err(ShelfErr::TooLong) => Err(Refusal::TooLong(file)),
+        Err(ShelfErr::Failed) => Err(Refusal::ReadFault(file)),
+        Err(ShelfErr::NoMemory) => Err(Refusal::NoMemory),
+    }
+}
+
+/// The class files of a call.
+fn load<S: Shelf>(alloc: Global, shelf: &mut S, request: &Request<'_>) -> Result<Loaded, Refusal>
+    requires few { length (asked_by request.now).files ≤ 1024 }
+    ensures files { S.files shelf.new ≡ S.files shelf.old }
+    ensures later { S.faults shelf.old ≤ S.faults shelf.new }
+    ensures answer { Loads (S.files shelf.old) (asked_by request.now).files (S.faults shelf.old)
+        (S.faults shelf.new) result }
+{
+    let mut classes = List::new(alloc);
+    let mut last = Vec::new(alloc);
+    for file in 0..request.count() {
+        let (class, bytes) = read_file(alloc, shelf, file as u32, request.file(file))?;
+        if classes.push(class).is_err() {
+            return Err(Refusal::NoMemory);
+        }
+        last = bytes;
+    }
+    Ok(Loaded {
+        classes,
+        bytes: last,
+    })
+}
+
+/// The program of class files, of which the last has these bytes, or why they aren't run.
+fn accept(alloc: Global, request: &Request<'_>, bytes: &[u8]) -> Result<ThinCode, Refusal>
+    ensures { MatchResult result (IsAccepted (asked_by request.now) bytes.now)
+        (IsNotRun (asked_by request.now) bytes.now) }
+{
+    if request.count() != 1 || request.main().is_some() {
+        return Err(Refusal::NotYet);
+    }
     match read_thin(alloc, bytes) {
         Ok(code) => Ok(code),
         Err(ThinErr::NotThin) => Err(Refusal::NotYet),
@@ -37,26 +103,18 @@ fn program_of(alloc: Global, bytes: &[u8]) -> Result<ThinCode, Refusal>
     }
 }
 
-/// The program that bytes have, or why they have none that is run.
-fn accept(alloc: Global, bytes: &[u8]) -> Result<ThinCode, Refusal>
-    ensures { MatchResult result (IsThin bytes.now) (RefusesFile bytes.now) }
-{
-    judge_class(alloc, bytes)?;
-    program_of(alloc, bytes)
-}
-
-/// The program of a file, or why it isn't run. The file is the first of the call's.
-pub(crate) fn load<S: Shelf>(alloc: Global, shelf: &mut S, name: &str) -> Result<ThinCode, Refusal>
+/// The program of a call's files, or why it isn't run.
+pub(crate) fn program<S: Shelf>(
+    alloc: Global,
+    shelf: &mut S,
+    request: &Request<'_>,
+) -> Result<ThinCode, Refusal>
+    requires few { length (asked_by request.now).files ≤ 1024 }
     ensures files { S.files shelf.new ≡ S.files shelf.old }
     ensures later { S.faults shelf.old ≤ S.faults shelf.new }
-    ensures answer { Loaded (S.files shelf.old) name.now (S.faults shelf.old)
+    ensures answer { Programs (S.files shelf.old) (asked_by request.now) (S.faults shelf.old)
         (S.faults shelf.new) result }
 {
-    match shelf.read_file(alloc, name, CLASS_FILE_LIMIT) {
-        Ok(bytes) => accept(alloc, bytes.as_slice()),
-        Err(ShelfErr::NotThere) => Err(Refusal::NoFile(0)),
-        Err(ShelfErr::TooLong) => Err(Refusal::TooLong(0)),
-        Err(ShelfErr::Failed) => Err(Refusal::ReadFault(0)),
-        Err(ShelfErr::NoMemory) => Err(Refusal::NoMemory),
-    }
+    let loaded = load(alloc, shelf, request)?;
+    accept(alloc, request, loaded.bytes.as_slice())
 }

@@ -1,7 +1,7 @@
 //! What a call answers.
 
 ghost use Rattle.std.specs.Prelude.{◌≡◌};
-ghost use Rattle.one_jvm.specs.Outcomes.{status_of};
+ghost use Rattle.one_jvm.specs.Outcomes.{place_of, status_of};
 
 use class_file::ClassErr;
 use one_machine::Order;
@@ -38,7 +38,7 @@ pub enum Refusal {
     /// A file is longer than a class file may be. Status 11.
     #[error("file too long")]
     TooLong(u32),
-    /// The file is a class file that isn't run yet. Status 14.
+    /// All files are class files, but they aren't run yet. Status 14.
     #[error("not yet")]
     NotYet,
     /// No memory was left. Status 20.
@@ -56,9 +56,22 @@ pub struct Outcome {
     pub refusal: Option<Refusal>,
 }
 
+/// The place of the file that a refusal names.
+pub(crate) fn place_of(refusal: &Refusal) -> Option<u32>
+    ensures { result ≡ place_of refusal.now }
+{
+    match refusal {
+        Refusal::File { file, .. }
+        | Refusal::NoFile(file)
+        | Refusal::ReadFault(file)
+        | Refusal::TooLong(file) => Some(*file),
+        _ => None,
+    }
+}
+
 /// The status of an outcome, by what was refused.
-pub(crate) fn status_of(refusal: Option<Refusal>) -> u8
-    ensures { result ≡ status_of refusal }
+pub(crate) fn status_of(refusal: &Option<Refusal>) -> u8
+    ensures { result ≡ status_of refusal.now }
 {
     match refusal {
         None => 0,

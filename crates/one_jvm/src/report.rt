@@ -107,16 +107,16 @@ fn write_refused<E: Sink>(err: &mut E, name: &[u8], why: ClassErr) -> Result<(),
 pub(crate) fn write_refusal<E: Sink>(
     err: &mut E,
     name: &str,
-    refusal: Refusal,
+    refusal: &Refusal,
 ) -> Result<(), Failed>
     ensures bytes { GainsAll (E.held err.old) (E.held err.new)
-        (report name.now (Some refusal)) result }
+        (report name.now (Some refusal.now)) result }
     ensures cause { HasCause (E.faults err.old) (E.faults err.new) result }
 {
     let name = name.as_bytes();
     match refusal {
         Refusal::Usage => write_all(err, b"cjvm: usage\n"),
-        Refusal::File { why, .. } => write_refused(err, name, why),
+        Refusal::File { why, .. } => write_refused(err, name, *why),
         Refusal::NoFile(_) => write_line(err, b"cjvm: no file ", name),
         Refusal::ReadFault(_) => write_line(err, b"cjvm: read fault ", name),
         Refusal::WriteFault => write_all(err, b"cjvm: write fault\n"),

@@ -3,16 +3,16 @@
 ghost use Rattle.std.specs.Prelude.{◌≡◌, ◌≤◌, ◌↔◌, ◌⊎◌, [], ◌∷◌, Some, None};
 ghost use Rattle.cjvm_io.specs.Faults.{Rose};
 ghost use Rattle.cjvm_io.specs.Sinks.{shown};
-ghost use Rattle.one_jvm.specs.Words.{IsNoRun, name_of, texts};
-ghost use Rattle.one_jvm.specs.Verdicts.{LacksFile, HasLongFile, HasOtherFile, HasRefusedFile, HasThinFile};
+ghost use Rattle.one_jvm.specs.Words.{IsNoRun, texts};
+ghost use Rattle.one_jvm.specs.Verdicts.{LacksFile, HasLongFile, HasOtherFiles, HasRefusedFile, HasThinFile};
 ghost use Rattle.one_jvm.specs.Outcomes.{status_of};
 ghost use Rattle.one_jvm.specs.Answers.{Because, Ran, Agrees, the_faults, refusal_of, Exactly, Answers, IsClosed, Reports};
 
-use crate::loading::load;
+use crate::loading::program;
 use crate::outcome::{Outcome, Refusal, Stop, status_of};
 use crate::report::write_refusal;
 use crate::running::run_program;
-use crate::words::{name_of, run_file};
+use crate::words::{name_of, read_words};
 use cjvm_io::{Failed, Shelf, Sink};
 use one_machine::Order;
 use std::alloc::Global;
@@ -47,7 +47,7 @@ fn refused(alloc: Global, refusal: Refusal) -> Verdict
     }
 }
 
-/// Reads the words and the file, and runs the program.
+/// Reads the words and the files, and runs the program.
 fn judge<S: Shelf, O: Sink>(alloc: Global, words: &[String], shelf: &mut S, out: &mut O) -> Verdict
     ensures cause { Because (texts words.now) (S.files shelf.old)
         (the_faults (S.faults shelf.old) (S.faults shelf.new) (O.faults out.old) (O.faults out.new))
@@ -61,10 +61,10 @@ fn judge<S: Shelf, O: Sink>(alloc: Global, words: &[String], shelf: &mut S, out:
     ensures no_read { IsNoRun (texts words.now) → shelf.new ≡ shelf.old }
     ensures no_run { result.stop ≡ None → out.new ≡ out.old }
 {
-    let Some(name) = run_file(words) else {
+    let Some(request) = read_words(words) else {
         return refused(alloc, Refusal::Usage);
     };
-    match load(alloc, shelf, name) {
+    match program(alloc, shelf, &request) {
         Ok(code) => {
             let (order, stop) = run_program(alloc, &code, out);
             Verdict {
@@ -86,16 +86,16 @@ fn close<E: Sink>(err: &mut E, name: &str, refusal: Option<Refusal>) -> Option<R
     ensures no_report { refusal ≡ None → err.new ≡ err.old }
 {
     let refusal = refusal?;
-    match write_refusal(err, name, refusal) {
+    match write_refusal(err, name, &refusal) {
         Ok(()) => Some(refusal),
         Err(Failed) => Some(Refusal::WriteFault),
     }
 }
 
-/// Does what the words say: `run FILE` reads a class file from the shelf and runs it. Its output
-/// goes to `out` burst by burst; at the end `err` gets a report, which is empty where the status is
-/// 0. `words` are those after the program's name. What a shelf or a sink holds is claimed only where
-/// it tells it.
+/// Does what the words say: `run FILE..` reads class files from the shelf and runs their program. Its
+/// output goes to `out` burst by burst; at the end `err` gets a report, which is empty where the
+/// status is 0. `words` are those after the program's name. What a shelf or a sink holds is claimed
+/// only where it tells it.
 pub fn cjvm<S: Shelf, O: Sink, E: Sink>(
     alloc: Global,
     words: &[String],
@@ -110,13 +110,13 @@ pub fn cjvm<S: Shelf, O: Sink, E: Sink>(
     ensures refused { Answers (S.files shelf.old) (texts words.now) result.status 3 HasRefusedFile }
     ensures no_file { Answers (S.files shelf.old) (texts words.now) result.status 4 LacksFile }
     ensures too_long { Answers (S.files shelf.old) (texts words.now) result.status 11 HasLongFile }
-    ensures not_yet { Answers (S.files shelf.old) (texts words.now) result.status 14 HasOtherFile }
+    ensures not_yet { Answers (S.files shelf.old) (texts words.now) result.status 14 HasOtherFiles }
     ensures ended { Answers (S.files shelf.old) (texts words.now) result.status 0 HasThinFile }
     ensures read_fault { result.status ≡ 5 → Rose (S.faults shelf.old) (S.faults shelf.new) }
     ensures write_fault { result.status ≡ 6 → Rose (O.faults out.old) (O.faults out.new)
         ⊎ Rose (E.faults err.old) (E.faults err.new) }
 
-    // The order is a legal one of the file's program and whole, and `out` gained its output.
+    // The order is a legal one of the files' program and whole, and `out` gained its output.
     ensures done { (result.status ≡ 0) ↔ (result.stop ≡ Some Stop.Done) }
     ensures run { Ran (texts words.now) (S.files shelf.old) (shown O.held O.faults out.old)
         (shown O.held O.faults out.new) result.order result.stop }
@@ -136,9 +136,10 @@ pub fn cjvm<S: Shelf, O: Sink, E: Sink>(
     ensures no_report { result.status ≡ 0 → err.new ≡ err.old }
 {
     let verdict = judge(alloc, words, shelf, out);
-    let refusal = close(err, name_of(words), verdict.refusal);
+    let name = name_of(words, &verdict.refusal);
+    let refusal = close(err, name, verdict.refusal);
     Outcome {
-        status: status_of(refusal),
+        status: status_of(&refusal),
         order: verdict.order,
         stop: verdict.stop,
         refusal,
@@ -155,7 +156,7 @@ pub fn without_words<E: Sink>(alloc: Global, err: &mut E) -> Outcome
 {
     let refusal = close(err, "", Some(Refusal::NoMemory));
     Outcome {
-        status: status_of(refusal),
+        status: status_of(&refusal),
         order: Order::new(alloc),
         stop: None,
         refusal,

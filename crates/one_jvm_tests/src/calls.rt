@@ -96,11 +96,24 @@ fn runs_the_first_file(rt: HostRuntime) -> Result<(), Fail> {
 #[test]
 fn refuses_by_name(rt: HostRuntime) -> Result<(), Fail> {
     let alloc = rt.alloc();
-    let words: [(&[&str], u8, &[u8]); 8] = [
+    let words: [(&[&str], u8, &[u8]); 13] = [
         (&[], 2, b"cjvm: usage\n"),
         (&["run"], 2, b"cjvm: usage\n"),
         (&["check", "A.class"], 2, b"cjvm: usage\n"),
-        (&["run", "A.class", "A.class"], 2, b"cjvm: usage\n"),
+        (&["run", "A.class", "A.class"], 14, b"cjvm: not yet\n"),
+        (
+            &["run", "A.class", "X.class"],
+            4,
+            b"cjvm: no file X.class\n",
+        ),
+        (&["run", "--main"], 2, b"cjvm: usage\n"),
+        (&["run", "A.class", "--main", "-A"], 2, b"cjvm: usage\n"),
+        (
+            &["run", "--main", "A", "--main", "A", "A.class"],
+            2,
+            b"cjvm: usage\n",
+        ),
+        (&["run", "--main", "A", "A.class"], 14, b"cjvm: not yet\n"),
         (&["run", "-A"], 2, b"cjvm: usage\n"),
         (&["run", "-"], 4, b"cjvm: no file -\n"),
         (&["run", ""], 4, b"cjvm: no file \n"),

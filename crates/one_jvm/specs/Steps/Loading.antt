@@ -1,40 +1,133 @@
--- What reading a file and accepting it answers.
-use Rattle.std.specs.Prelude.{◌≡◌, ◌⊎◌, ℕ, List, Option, None, Result, Ok, Err}
+-- What reading files and accepting them answers.
+use Rattle.std.specs.Prelude.{◌≡◌, ◌⊎◌, ℕ, ◌≤◌, List, [], ◌∷◌, length, Option, Some, None, Result, Ok, Err}
 use Rattle.cjvm_io.specs.Faults.{Rose}
 use Rattle.cjvm_io.specs.Shelves.{Files, bytes_under}
-use Rattle.thin_file.specs.declared.thin.ThinCode.{ThinCode}
+use Rattle.class_format.specs.declared.class.ClassFile.{ClassFile}
+use Rattle.class_format.specs.Meaning.{Spells}
 use Rattle.class_file.specs.Refused.{IsRefused}
+use Rattle.thin_file.specs.declared.thin.ThinCode.{ThinCode}
+use Rattle.thin_file.specs.Thin.{IsThin}
+use Rattle.one_jvm.specs.declared.loading.Loaded.{Loaded}
 use Rattle.one_jvm.specs.declared.outcome.Refusal.{Refusal}
 use Rattle.one_jvm.specs.declared.outcome.Refusal.TheVariants.{Usage, File, NoFile, ReadFault, WriteFault, TooLong, NotYet, NoMemory}
-use Rattle.one_jvm.specs.Verdicts.{IsClassFile, IsOther, IsLong, IsRefusedFile, IsOtherFile, IsThinFile, IsUnder}
-use Rattle.one_jvm.specs.Answers.{OfFiles}
+use Rattle.one_jvm.specs.Words.{Asked}
+use Rattle.one_jvm.specs.Verdicts.{limit, IsMissing, IsLong, IsRefusedFile, IsClassFile, AreClassFiles, StopsAt, IsThinProgram, IsOtherProgram, AreUnder}
+use Rattle.one_jvm.specs.Answers.{IsAny}
 
--- why bytes are refused, or a class file that isn't thin
-abbrev pub RefusesFile : List ℕ → Refusal → Type 0
-RefusesFile bytes (File k why) = (k ≡ 0) × IsRefused bytes why
-RefusesFile bytes NotYet = IsClassFile bytes × IsOther bytes
-RefusesFile bytes NoMemory = Unit {0}
-RefusesFile bytes _ = ⊥
+-- ---- one file
 
--- the file of this name has this program, or is refused so
-abbrev pub Loads : Files → List ℕ → Result ThinCode Refusal → Type 0
-Loads fs name (Ok code) = IsUnder fs name (IsThinFile code)
-Loads fs name (Err (NoFile k)) = (k ≡ 0) × (bytes_under fs name ≡ None)
-Loads fs name (Err (TooLong k)) = (k ≡ 0) × IsUnder fs name IsLong
-Loads fs name (Err (File k why)) = (k ≡ 0) × IsUnder fs name (IsRefusedFile why)
-Loads fs name (Err NotYet) = IsUnder fs name IsOtherFile
-Loads fs name (Err Usage) = ⊥
-Loads fs name (Err (ReadFault k)) = ⊥
-Loads fs name (Err WriteFault) = ⊥
-Loads fs name (Err NoMemory) = ⊥
+-- what there is under a name: that which the shelf tells, or anything where it tells nothing
+abbrev pub IsUnder : Option Files → List ℕ → Option (List ℕ) → Type 0
+IsUnder None name content = Unit {0}
+IsUnder (Some fs) name content = content ≡ bytes_under fs name
+
+-- what there is under the name has P
+pub record IsFound (told : Option Files) (name : List ℕ) (P : Option (List ℕ) → Type 0)
+    : Type 0 where
+  pub content : Option (List ℕ)
+  pub under : IsUnder told name content
+  pub such : P content
+
+-- the bytes of a class, not too many
+pub record IsRead (class : ClassFile) (bytes : List ℕ) (content : Option (List ℕ)) : Type 0 where
+  pub has : content ≡ Some bytes
+  pub short : length bytes ≤ limit
+  pub spells : Spells class bytes
+
+-- the bytes of the file at a place are refused
+abbrev pub RefusesBytes : ℕ → List ℕ → Refusal → Type 0
+RefusesBytes place bytes (File k why) = (k ≡ place) × IsRefused bytes why
+RefusesBytes place bytes NoMemory = Unit {0}
+RefusesBytes place bytes _ = ⊥
+
+-- what there is at a place is refused
+abbrev pub RefusesFile : ℕ → Refusal → Option (List ℕ) → Type 0
+RefusesFile place (NoFile k) content = (k ≡ place) × IsMissing content
+RefusesFile place (TooLong k) content = (k ≡ place) × IsLong content
+RefusesFile place (File k why) content = (k ≡ place) × IsRefusedFile why content
+RefusesFile place _ content = ⊥
+
+-- the read at a place failed, or memory ran out
+abbrev pub FailsAt : ℕ → ℕ → ℕ → Refusal → Type 0
+FailsAt place before now (ReadFault k) = (k ≡ place) × Rose before now
+FailsAt place before now NoMemory = Unit {0}
+FailsAt place before now _ = ⊥
+
+-- what reading the file of a name, at a place, answers
+abbrev pub ReadsFile : {B : Type 0} → (B → List ℕ) → Option Files → List ℕ → ℕ → ℕ → ℕ
+    → Result (ClassFile × B) Refusal → Type 0
+ReadsFile bytes_of told name place before now (Ok r) = IsFound told name (IsRead r.0 (bytes_of r.1))
+ReadsFile bytes_of told name place before now (Err e) =
+    IsFound told name (RefusesFile place e) ⊎ FailsAt place before now e
+
+-- ---- all files
+
+-- what there is under the names has P
+pub record AreFound (told : Option Files) (names : List (List ℕ))
+    (P : List (Option (List ℕ)) → Type 0) : Type 0 where
+  pub contents : List (Option (List ℕ))
+  pub under : AreUnder told names contents
+  pub such : P contents
+
+-- the last one, if there is one, has these bytes
+abbrev pub IsLast : List (Option (List ℕ)) → List ℕ → Type 0
+IsLast [] bytes = Unit {0}
+IsLast (content ∷ []) bytes = content ≡ Some bytes
+IsLast (content ∷ other ∷ contents) bytes = IsLast (other ∷ contents) bytes
+
+-- they are the files of these classes, and these are the bytes of the last
+pub record AreRead (classes : List ClassFile) (bytes : List ℕ)
+    (contents : List (Option (List ℕ))) : Type 0 where
+  pub are : AreClassFiles contents classes
+  pub last : IsLast contents bytes
+
+-- one of them is refused, behind files that are read
+abbrev pub RefusesFiles : Refusal → List (Option (List ℕ)) → Type 0
+RefusesFiles (NoFile k) contents = StopsAt IsMissing k contents
+RefusesFiles (TooLong k) contents = StopsAt IsLong k contents
+RefusesFiles (File k why) contents = StopsAt (IsRefusedFile why) k contents
+RefusesFiles _ contents = ⊥
 
 -- a read failed, or memory ran out
-abbrev pub LoadFails : ℕ → ℕ → Result ThinCode Refusal → Type 0
-LoadFails before now (Err (ReadFault k)) = (k ≡ 0) × Rose before now
-LoadFails before now (Err NoMemory) = Unit {0}
-LoadFails before now _ = ⊥
+abbrev pub LoadFails : Option Files → List (List ℕ) → ℕ → ℕ → Refusal → Type 0
+LoadFails told names before now (ReadFault k) =
+    Rose before now × AreFound told names (StopsAt IsAny k)
+LoadFails told names before now NoMemory = Unit {0}
+LoadFails told names before now _ = ⊥
 
--- what holds of the shelf's file where loading it answers so
-abbrev pub Loaded : Option Files → List ℕ → ℕ → ℕ → Result ThinCode Refusal → Type 0
-Loaded told name before now result =
-    OfFiles told (λ fs. Loads fs name result) ⊎ LoadFails before now result
+-- what holds of the shelf's files where loading them answers so
+abbrev pub Loads : Option Files → List (List ℕ) → ℕ → ℕ → Result Loaded Refusal → Type 0
+Loads told names before now (Ok l) = AreFound told names (AreRead l.classes l.bytes.items)
+Loads told names before now (Err e) =
+    AreFound told names (RefusesFiles e) ⊎ LoadFails told names before now e
+
+-- ---- the program
+
+-- one file, and no main class is named
+pub record IsAlone (asked : Asked) : Type 0 where
+  pub plain : asked.main ≡ None
+  pub one : length asked.files ≡ 1
+
+-- the one file is thin, and this is its program
+pub record IsAccepted (asked : Asked) (bytes : List ℕ) (code : ThinCode) : Type 0 where
+  pub alone : IsAlone asked
+  pub thin : IsThin bytes code
+
+-- it isn't run, or memory ran out
+abbrev pub IsNotRun : Asked → List ℕ → Refusal → Type 0
+IsNotRun asked bytes NotYet = (code : ThinCode) → ¬ IsAccepted asked bytes code
+IsNotRun asked bytes NoMemory = Unit {0}
+IsNotRun asked bytes _ = ⊥
+
+-- the files' program is refused
+abbrev pub RefusesProgram : Option (List ℕ) → Refusal → List (Option (List ℕ)) → Type 0
+RefusesProgram main NotYet contents = IsOtherProgram main contents
+RefusesProgram main e contents = RefusesFiles e contents
+
+-- what holds of the shelf's files where forming their program answers so
+abbrev pub Programs : Option Files → Asked → ℕ → ℕ → Result ThinCode Refusal → Type 0
+Programs told asked before now (Ok code) =
+    AreFound told asked.files (IsThinProgram code asked.main)
+Programs told asked before now (Err e) =
+    AreFound told asked.files (RefusesProgram asked.main e)
+    ⊎ LoadFails told asked.files before now e
