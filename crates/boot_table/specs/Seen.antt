@@ -52,4 +52,7 @@ seen c = record {
 
 -- an exception, of which only names are kept
 abbrev pub seen_exception : BootException → Row
-seen_exception e = exception_of (if e.is_abstract then public + supers + is_abstract else public + supers) e.name.now e.above.now
+seen_exception e =
+    exception_of
+    (if e.is_abstract then public + supers + is_abstract else public + supers)
+    e.name.now e.above.now

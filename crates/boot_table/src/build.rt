@@ -155,14 +155,17 @@ fn constructs(above: &'static str, desc: &'static str) -> BootOp
     })
 }
 
+/// The class file of an exception whose constructors have this code.
 fn exception_of_ops(
     alloc: Global,
     exception: &BootException,
     plain: &[BootOp],
     with_text: &[BootOp],
 ) -> Result<ClassFile, NoMemory>
-    requires plain { map seen_op plain.now ≡ Aload0 ∷ constructs exception.now.above.now plain_desc ∷ Return ∷ [] }
-    requires with_text { map seen_op with_text.now ≡ Aload0 ∷ Aload1 ∷ constructs exception.now.above.now takes_text ∷ Return ∷ [] }
+    requires plain { map seen_op plain.now
+        ≡ Aload0 ∷ constructs exception.now.above.now plain_desc ∷ Return ∷ [] }
+    requires with_text { map seen_op with_text.now
+        ≡ Aload0 ∷ Aload1 ∷ constructs exception.now.above.now takes_text ∷ Return ∷ [] }
     ensures { IfOk result (λ file. file ≡ file_of (seen_exception exception.now)) }
 {
     let methods = [

@@ -18,6 +18,15 @@ fn digit(byte: u8) -> Option<u8> {
     }
 }
 
+/// Puts a byte at the end of the bytes with its second digit; what is left over is a first digit.
+fn push_digit(bytes: &mut Vec<u8>, high: Option<u8>, low: u8) -> Result<Option<u8>, AllocError> {
+    let Some(first) = high else {
+        return Ok(Some(low));
+    };
+    bytes.push(first.wrapping_mul(16).wrapping_add(low))?;
+    Ok(None)
+}
+
 /// Puts what a row gives at the end of the bytes.
 pub(crate) fn push_given(bytes: &mut Vec<u8>, given: &str) -> Result<(), AllocError> {
     let mut in_text = false;
@@ -31,13 +40,7 @@ pub(crate) fn push_given(bytes: &mut Vec<u8>, given: &str) -> Result<(), AllocEr
         } else if byte == b'C' {
             bytes.extend_from_slice(CODE)?;
         } else if let Some(low) = digit(byte) {
-            match high {
-                None => high = Some(low),
-                Some(first) => {
-                    bytes.push(first.wrapping_mul(16).wrapping_add(low))?;
-                    high = None;
-                }
-            }
+            high = push_digit(bytes, high, low)?;
         }
     }
     Ok(())

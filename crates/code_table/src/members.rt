@@ -28,6 +28,7 @@ fn share<T: Drop>(desc: Option<&Shared<T>>, at: u32) -> Result<Shared<T>, CodeEr
     }
 }
 
+/// A field instruction, with the descriptor of its item.
 #[tactic(auto, unfolding(crate::specs::Pooled::field))]
 pub(crate) fn on_field(
     kind: Member,
@@ -45,6 +46,7 @@ pub(crate) fn on_field(
     })
 }
 
+/// A call of a class's method, with the descriptor of its item.
 #[tactic(auto, unfolding(crate::specs::Pooled::method))]
 pub(crate) fn on_method(op: u8, descs: &Descs<'_>, item: u16, at: u32) -> Result<Op, CodeErr>
     ensures { Gives told itself result (method (Invoke op) descs.now item at) }
@@ -53,6 +55,7 @@ pub(crate) fn on_method(op: u8, descs: &Descs<'_>, item: u16, at: u32) -> Result
     Ok(Op::Invoke { op, item, desc })
 }
 
+/// A call of an interface's method: its count is that of the argument slots, its last byte 0.
 #[tactic(auto, unfolding(crate::specs::Pooled::interface_method))]
 pub(crate) fn on_interface(
     op: u8,
