@@ -68,5 +68,5 @@ pub(crate) fn resolver<'p, 'a>(
 {
     let interfaces = walk_table(alloc, program, ranks, Step::Interfaces)?;
     let fields = walk_table(alloc, program, ranks, Step::Fields)?;
-    Ok(Resolver::new(program, supers, interfaces, fields))
+    Resolver::new(alloc, program, supers, interfaces, fields)
 }

@@ -88,7 +88,7 @@ fn add_file_texts<'a>(names: &mut Names<'a>, files: &'a [ClassFile]) -> Result<(
 
 /// The texts of the members of all classes.
 #[tactic(auto, using(crate::proofs::OwnedBuilt::texts_both))]
-fn texts<'a>(alloc: Global, program: &'a Program<'a>) -> Result<Names<'a>, NoMemory>
+fn texts<'a>(alloc: Global, program: &'a Program<'_>) -> Result<Names<'a>, NoMemory>
     ensures { IfOk result (λ names. names ≡ add_names [] (flat_map class_texts program.now)) }
 {
     let mut names = Names::new(alloc);
@@ -202,7 +202,7 @@ fn places(
 
 impl<'a> Owned<'a> {
     /// What the classes of a program declare.
-    pub fn new<'f>(alloc: Global, program: &'a Program<'f>) -> Result<Owned<'a>, NoMemory>
+    pub fn new(alloc: Global, program: &'a Program<'_>) -> Result<Owned<'a>, NoMemory>
         requires { length program.now < 2 ^ 25 }
         ensures { IfOk result (λ owned. IsOwned program.now owned) }
     {
