@@ -2,3 +2,4 @@ pub mod Lookups
 pub mod Tables
 pub mod Uses
 pub mod Owned
+pub mod Walk

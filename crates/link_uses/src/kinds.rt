@@ -1,20 +1,17 @@
 //! What code uses is of the kind that its instruction asks.
 
-ghost use Rattle.std.specs.Prelude.{◌≡◌, ◌==◌, map};
-ghost use Rattle.std.specs.List.{flat_map};
-ghost use Rattle.class_names.specs.Classes.{code_of, codes_of};
+ghost use Rattle.std.specs.Prelude.{◌≡◌, ◌==◌};
 ghost use Rattle.class_names.specs.Seen.{seen_member};
 ghost use Rattle.link_rules.specs.Answers.{IsAnswer};
-ghost use Rattle.link_uses.specs.Uses.{is_wrong_field_use, wrong_holder, wrong_name, wrong_method_flags, finds_wrong_method, is_wrong_call, is_wrong_new, wrong_field_use, wrong_call, wrong_new, wrong_use, wrong_use_placed, wrong_uses_in, wrong_uses};
+ghost use Rattle.link_uses.specs.Uses.{is_wrong_field_use, wrong_holder, wrong_name, wrong_method_flags, finds_wrong_method, is_wrong_call, is_wrong_new, wrong_field_use, wrong_call, wrong_new, wrong_use};
 
 use crate::flags::{field_flags, method_flags};
 use crate::lookup::Resolver;
-use class_format::{ABSTRACT, ClassFile, INTERFACE, MethodItem, STATIC, has_flag};
+use class_format::{ABSTRACT, ClassFile, INTERFACE, STATIC, has_flag};
 use class_names::{Called, class_text, is_array, is_clinit, is_init, member};
+use code_table::Op;
 use code_table::opcode::{INVOKEINTERFACE, INVOKESPECIAL, INVOKESTATIC};
-use code_table::{Code, Op, Placed};
-use jvm_base::List;
-use link_rules::{LinkErr, LinkWhy, Program, ops, refuse_class_if, refuse_member_if};
+use link_rules::{LinkErr, LinkWhy, Program, refuse_class_if, refuse_member_if};
 use std::alloc::Global;
 
 fn is_wrong_field_use(resolver: &Resolver, is_static: bool, m: &Called) -> bool
@@ -115,7 +112,13 @@ fn check_new(
     refuse_class_if(alloc, is_wrong, LinkWhy::WrongKind, file, text)
 }
 
-fn check_op(alloc: Global, resolver: &Resolver, file: &ClassFile, op: &Op) -> Result<(), LinkErr>
+/// What an instruction uses is of the kind that it asks.
+pub(crate) fn check_op(
+    alloc: Global,
+    resolver: &Resolver,
+    file: &ClassFile,
+    op: &Op,
+) -> Result<(), LinkErr>
     ensures { IsAnswer (wrong_use resolver.now file.now op.now) result }
 {
     let pool = file.pool.as_slice();
@@ -128,68 +131,4 @@ fn check_op(alloc: Global, resolver: &Resolver, file: &ClassFile, op: &Op) -> Re
         Op::New(item) => check_new(alloc, resolver, file, class_text(pool, *item)),
         _ => Ok(()),
     }
-}
-
-#[tactic(auto, using(link_rules::proofs::Firsts::places_break))]
-fn check_ops(
-    alloc: Global,
-    resolver: &Resolver,
-    file: &ClassFile,
-    ops: &[Placed],
-) -> Result<(), LinkErr>
-    ensures { IsAnswer (flat_map (wrong_use_placed resolver.now file.now) ops.now) result }
-{
-    for placed in ops {
-        check_op(alloc, resolver, file, &placed.op)?;
-    }
-    Ok(())
-}
-
-#[tactic(auto, unfolding(crate::specs::Uses::wrong_uses_in))]
-fn check_method(
-    alloc: Global,
-    resolver: &Resolver,
-    file: &ClassFile,
-    method: &MethodItem,
-    code: &Option<Code>,
-) -> Result<(), LinkErr>
-    requires code { code.now ≡ code_of file.now.pool method.now }
-    ensures { IsAnswer (wrong_uses_in resolver.now file.now method.now) result }
-{
-    let _flags = method.flags;
-    check_ops(alloc, resolver, file, ops(code))
-}
-
-#[tactic(auto, using(link_rules::proofs::Firsts::places_break), unfolding(crate::specs::Uses::wrong_uses))]
-fn check_file(
-    alloc: Global,
-    resolver: &Resolver,
-    file: &ClassFile,
-    codes: &[Option<Code>],
-) -> Result<(), LinkErr>
-    requires codes { codes.now ≡ codes_of file.now }
-    ensures { IsAnswer (wrong_uses resolver.now file.now) result }
-{
-    let methods = file.methods.as_slice();
-    for i in 0..methods.len() {
-        check_method(alloc, resolver, file, &methods[i], &codes[i])?;
-    }
-    Ok(())
-}
-
-/// What the files' code uses is of the kind that its instruction asks.
-#[tactic(auto, using(link_rules::proofs::Firsts::places_break))]
-pub fn check_uses(
-    alloc: Global,
-    resolver: &Resolver,
-    files: &[ClassFile],
-    codes: &[List<Option<Code>>],
-) -> Result<(), LinkErr>
-    requires { codes.now ≡ map codes_of files.now }
-    ensures { IsAnswer (flat_map (wrong_uses resolver.now) files.now) result }
-{
-    for i in 0..files.len() {
-        check_file(alloc, resolver, &files[i], codes[i].as_slice())?;
-    }
-    Ok(())
 }

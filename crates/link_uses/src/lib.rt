@@ -7,8 +7,8 @@ mod kinds;
 mod lookup;
 mod missing;
 mod owned;
+mod walk;
 
 pub use access::check_access;
-pub use kinds::check_uses;
 pub use lookup::{Found, Resolver};
-pub use missing::check_members;
+pub use walk::{check_members, check_uses};

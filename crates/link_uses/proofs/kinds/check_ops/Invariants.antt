@@ -1,8 +1,0 @@
-use Rattle.std.proofs.Common.{◌≡◌, drop}
-use Rattle.std.specs.List.{flat_map}
-use Rattle.link_uses.specs.Uses.{wrong_use_placed}
-use Rattle.link_uses.proofs.kinds.check_ops.Given as goal
-
-abbrev pub invariant-loop-placed : goal.invariant-loop-placed
-invariant-loop-placed l =
-    flat_map (wrong_use_placed l.resolver l.file) l.ops ≡ flat_map (wrong_use_placed l.resolver l.file) (drop l.placed-index l.ops)

@@ -1,0 +1,134 @@
+//! One walk over the code of files, for the rules that look at instructions alone.
+
+ghost use Rattle.std.specs.Prelude.{◌≡◌, map};
+ghost use Rattle.std.specs.List.{flat_map};
+ghost use Rattle.class_names.specs.Classes.{code_of, codes_of};
+ghost use Rattle.link_rules.specs.Answers.{IsAnswer};
+ghost use Rattle.link_uses.specs.Uses.{no_members, wrong_uses};
+ghost use Rattle.link_uses.specs.Walk.{broken, broken_placed, broken_in, broken_file};
+
+use crate::lookup::Resolver;
+use crate::{kinds, missing};
+use class_format::{ClassFile, MethodItem};
+use code_table::{Code, Op, Placed};
+use jvm_base::List;
+use link_rules::{LinkErr, ops};
+use std::alloc::Global;
+
+/// A rule on instructions: that members are found, or that what is used is of the right kind.
+#[derive(Clone, Copy)]
+pub(crate) enum Rule {
+    Members,
+    Kinds,
+}
+
+fn check_op(
+    alloc: Global,
+    resolver: &Resolver,
+    rule: Rule,
+    file: &ClassFile,
+    op: &Op,
+) -> Result<(), LinkErr>
+    ensures { IsAnswer (broken rule resolver.now file.now op.now) result }
+{
+    match rule {
+        Rule::Members => missing::check_op(alloc, resolver, file, op),
+        Rule::Kinds => kinds::check_op(alloc, resolver, file, op),
+    }
+}
+
+#[tactic(auto, using(link_rules::proofs::Firsts::places_break))]
+fn check_ops(
+    alloc: Global,
+    resolver: &Resolver,
+    rule: Rule,
+    file: &ClassFile,
+    ops: &[Placed],
+) -> Result<(), LinkErr>
+    ensures { IsAnswer (flat_map (broken_placed rule resolver.now file.now) ops.now) result }
+{
+    for placed in ops {
+        check_op(alloc, resolver, rule, file, &placed.op)?;
+    }
+    Ok(())
+}
+
+#[tactic(auto, unfolding(crate::specs::Walk::broken_in))]
+fn check_method(
+    alloc: Global,
+    resolver: &Resolver,
+    rule: Rule,
+    file: &ClassFile,
+    method: &MethodItem,
+    code: &Option<Code>,
+) -> Result<(), LinkErr>
+    requires code { code.now ≡ code_of file.now.pool method.now }
+    ensures { IsAnswer (broken_in rule resolver.now file.now method.now) result }
+{
+    let _flags = method.flags;
+    check_ops(alloc, resolver, rule, file, ops(code))
+}
+
+#[tactic(auto, using(link_rules::proofs::Firsts::places_break), unfolding(crate::specs::Walk::broken_file))]
+fn check_file(
+    alloc: Global,
+    resolver: &Resolver,
+    rule: Rule,
+    file: &ClassFile,
+    codes: &[Option<Code>],
+) -> Result<(), LinkErr>
+    requires codes { codes.now ≡ codes_of file.now }
+    ensures { IsAnswer (broken_file rule resolver.now file.now) result }
+{
+    let methods = file.methods.as_slice();
+    for i in 0..methods.len() {
+        check_method(alloc, resolver, rule, file, &methods[i], &codes[i])?;
+    }
+    Ok(())
+}
+
+/// No instruction of the files breaks the rule.
+#[tactic(auto, using(link_rules::proofs::Firsts::places_break))]
+fn check_files(
+    alloc: Global,
+    resolver: &Resolver,
+    rule: Rule,
+    files: &[ClassFile],
+    codes: &[List<Option<Code>>],
+) -> Result<(), LinkErr>
+    requires { codes.now ≡ map codes_of files.now }
+    ensures { IsAnswer (flat_map (broken_file rule resolver.now) files.now) result }
+{
+    for i in 0..files.len() {
+        check_file(alloc, resolver, rule, &files[i], codes[i].as_slice())?;
+    }
+    Ok(())
+}
+
+/// Each field and method that the files' code uses is found.
+#[tactic(auto, unfolding(crate::specs::Uses::lacking_in, crate::specs::Uses::no_members, crate::specs::Walk::broken_in, crate::specs::Walk::broken_file))]
+pub fn check_members(
+    alloc: Global,
+    resolver: &Resolver,
+    files: &[ClassFile],
+    codes: &[List<Option<Code>>],
+) -> Result<(), LinkErr>
+    requires { codes.now ≡ map codes_of files.now }
+    ensures { IsAnswer (flat_map (no_members resolver.now) files.now) result }
+{
+    check_files(alloc, resolver, Rule::Members, files, codes)
+}
+
+/// What the files' code uses is of the kind that its instruction asks.
+#[tactic(auto, unfolding(crate::specs::Uses::wrong_uses_in, crate::specs::Uses::wrong_uses, crate::specs::Walk::broken_in, crate::specs::Walk::broken_file))]
+pub fn check_uses(
+    alloc: Global,
+    resolver: &Resolver,
+    files: &[ClassFile],
+    codes: &[List<Option<Code>>],
+) -> Result<(), LinkErr>
+    requires { codes.now ≡ map codes_of files.now }
+    ensures { IsAnswer (flat_map (wrong_uses resolver.now) files.now) result }
+{
+    check_files(alloc, resolver, Rule::Kinds, files, codes)
+}
