@@ -1,3 +1,4 @@
 pub mod WalkedLaws
 pub mod OwnedLaws
 pub mod OwnedBuilt
+pub mod ItemLaws

@@ -3,3 +3,4 @@ pub mod Tables
 pub mod Uses
 pub mod Owned
 pub mod Walk
+pub mod Items

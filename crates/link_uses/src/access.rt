@@ -9,10 +9,13 @@ ghost use Rattle.class_names.specs.Named.{desc_names};
 ghost use Rattle.class_names.specs.Seen.{seen_member};
 ghost use Rattle.link_rules.specs.Answers.{IsAnswer};
 ghost use Rattle.link_rules.specs.Numbers.{numbered};
+ghost use Rattle.link_uses.specs.Items.{AreItems};
+ghost use Rattle.link_uses.specs.Lookups.{found_field, found_method};
 ghost use Rattle.link_uses.specs.Uses.{name_at, no_access_class, no_access_item, is_hidden, is_foreign_write, is_hidden_field, no_access_field, is_hidden_method, no_access_method, no_access_op, no_access_placed, no_access_entry, no_access_in, no_access};
 
 use crate::flags::{field_flags, method_flags};
-use crate::lookup::Resolver;
+use crate::items::{field_at, file_items, method_at};
+use crate::lookup::{Found, Resolver};
 use class_format::{ClassFile, FINAL, MethodItem, PRIVATE, PROTECTED, PUBLIC, has_flag};
 use class_names::{Called, class_text, desc, is_array, member, this_name};
 use code_table::opcode::{PUTFIELD, PUTSTATIC};
@@ -116,11 +119,19 @@ fn is_foreign_write(op: u8, number: u32, flags: u16, owner: u32) -> bool
     (op == PUTSTATIC || op == PUTFIELD) && has_flag(flags, FINAL) && owner != number
 }
 
-fn is_hidden_field(resolver: &Resolver, number: u32, file: &ClassFile, op: u8, m: &Called) -> bool
-    requires { number < length resolver.now }
+fn is_hidden_field(
+    resolver: &Resolver,
+    number: u32,
+    file: &ClassFile,
+    op: u8,
+    m: &Called,
+    found: Option<Found>,
+) -> bool
+    requires inside { number < length resolver.now }
+    requires found { found ≡ found_field resolver.now (seen_member m.now) }
     ensures { result ≡ is_hidden_field resolver.now number file.now op (seen_member m.now) }
 {
-    match resolver.field(m) {
+    match found {
         Some(found) => {
             let flags = field_flags(resolver.program(), &found);
             is_hidden(resolver, number, file, flags, found.class)
@@ -130,11 +141,18 @@ fn is_hidden_field(resolver: &Resolver, number: u32, file: &ClassFile, op: u8, m
     }
 }
 
-fn is_hidden_method(resolver: &Resolver, number: u32, file: &ClassFile, m: &Called) -> bool
-    requires { number < length resolver.now }
+fn is_hidden_method(
+    resolver: &Resolver,
+    number: u32,
+    file: &ClassFile,
+    m: &Called,
+    found: Option<Found>,
+) -> bool
+    requires inside { number < length resolver.now }
+    requires found { found ≡ found_method resolver.now (seen_member m.now) }
     ensures { result ≡ is_hidden_method resolver.now number file.now (seen_member m.now) }
 {
-    match resolver.method(m) {
+    match found {
         Some(found) => {
             let flags = method_flags(resolver.program(), &found);
             is_hidden(resolver, number, file, flags, found.class)
@@ -151,11 +169,13 @@ fn check_field(
     file: &ClassFile,
     op: u8,
     m: &Called,
+    found: Option<Found>,
 ) -> Result<(), LinkErr>
     requires inside { number < length resolver.now }
+    requires found { found ≡ found_field resolver.now (seen_member m.now) }
     ensures { IsAnswer (no_access_field resolver.now number file.now op (seen_member m.now)) result }
 {
-    let is_hidden = is_hidden_field(resolver, number, file, op, m);
+    let is_hidden = is_hidden_field(resolver, number, file, op, m, found);
     refuse_member_if(alloc, is_hidden, LinkWhy::NoAccess, file, m.name, m.desc)
 }
 
@@ -166,11 +186,13 @@ fn check_call(
     number: u32,
     file: &ClassFile,
     m: &Called,
+    found: Option<Found>,
 ) -> Result<(), LinkErr>
     requires inside { number < length resolver.now }
+    requires found { found ≡ found_method resolver.now (seen_member m.now) }
     ensures { IsAnswer (no_access_method resolver.now number file.now (seen_member m.now)) result }
 {
-    let is_hidden = is_hidden_method(resolver, number, file, m);
+    let is_hidden = is_hidden_method(resolver, number, file, m, found);
     refuse_member_if(alloc, is_hidden, LinkWhy::NoAccess, file, m.name, m.desc)
 }
 
@@ -181,9 +203,11 @@ fn check_op(
     resolver: &Resolver,
     number: u32,
     file: &ClassFile,
+    items: &[Option<Found>],
     op: &Op,
 ) -> Result<(), LinkErr>
     requires inside { number < length resolver.now }
+    requires items { AreItems resolver.now file.now.pool items.now }
     ensures { IsAnswer (no_access_op resolver.now number file.now op.now) result }
 {
     let pool = file.pool.as_slice();
@@ -192,12 +216,14 @@ fn check_op(
         Op::Static { op, item, .. } | Op::Field { op, item, .. } => {
             let m = member(pool, *item);
             check_text(alloc, program, file, m.class)?;
-            check_field(alloc, resolver, number, file, *op, &m)
+            let found = field_at(resolver, pool, items, *item);
+            check_field(alloc, resolver, number, file, *op, &m, found)
         }
         Op::Invoke { item, .. } => {
             let m = member(pool, *item);
             check_text(alloc, program, file, m.class)?;
-            check_call(alloc, resolver, number, file, &m)
+            let found = method_at(resolver, pool, items, *item);
+            check_call(alloc, resolver, number, file, &m, found)
         }
         Op::New(item)
         | Op::AnewArray(item)
@@ -215,13 +241,15 @@ fn check_ops(
     resolver: &Resolver,
     number: u32,
     file: &ClassFile,
+    items: &[Option<Found>],
     ops: &[Placed],
 ) -> Result<(), LinkErr>
     requires inside { number < length resolver.now }
+    requires items { AreItems resolver.now file.now.pool items.now }
     ensures { IsAnswer (flat_map (no_access_placed resolver.now number file.now) ops.now) result }
 {
     for placed in ops {
-        check_op(alloc, resolver, number, file, &placed.op)?;
+        check_op(alloc, resolver, number, file, items, &placed.op)?;
     }
     Ok(())
 }
@@ -268,14 +296,16 @@ fn check_method(
     resolver: &Resolver,
     number: u32,
     file: &ClassFile,
+    items: &[Option<Found>],
     method: &MethodItem,
     code: &Option<Code>,
 ) -> Result<(), LinkErr>
     requires code { code.now ≡ code_of file.now.pool method.now }
     requires inside { number < length resolver.now }
+    requires items { AreItems resolver.now file.now.pool items.now }
     ensures { IsAnswer (no_access_in resolver.now number file.now method.now) result }
 {
-    check_ops(alloc, resolver, number, file, ops(code))?;
+    check_ops(alloc, resolver, number, file, items, ops(code))?;
     check_table(alloc, resolver.program(), file, table(method))
 }
 
@@ -291,9 +321,11 @@ fn check_file(
     requires inside { number < length resolver.now }
     ensures { IsAnswer (no_access resolver.now number file.now) result }
 {
+    let items = file_items(alloc, resolver, file)?;
     let methods = file.methods.as_slice();
     for i in 0..methods.len() {
-        check_method(alloc, resolver, number, file, &methods[i], &codes[i])?;
+        let found = items.as_slice();
+        check_method(alloc, resolver, number, file, found, &methods[i], &codes[i])?;
     }
     Ok(())
 }

@@ -3,10 +3,13 @@
 ghost use Rattle.std.specs.Prelude.{◌≡◌, ◌==◌};
 ghost use Rattle.class_names.specs.Seen.{seen_member};
 ghost use Rattle.link_rules.specs.Answers.{IsAnswer};
+ghost use Rattle.link_uses.specs.Items.{AreItems};
+ghost use Rattle.link_uses.specs.Lookups.{found_field, found_method};
 ghost use Rattle.link_uses.specs.Uses.{is_wrong_field_use, wrong_holder, wrong_name, wrong_method_flags, finds_wrong_method, is_wrong_call, is_wrong_new, wrong_field_use, wrong_call, wrong_new, wrong_use};
 
 use crate::flags::{field_flags, method_flags};
-use crate::lookup::Resolver;
+use crate::items::{field_at, method_at};
+use crate::lookup::{Found, Resolver};
 use class_format::{ABSTRACT, ClassFile, INTERFACE, STATIC, has_flag};
 use class_names::{Called, class_text, is_array, is_clinit, is_init, member};
 use code_table::Op;
@@ -14,10 +17,16 @@ use code_table::opcode::{INVOKEINTERFACE, INVOKESPECIAL, INVOKESTATIC};
 use link_rules::{LinkErr, LinkWhy, Program, refuse_class_if, refuse_member_if};
 use std::alloc::Global;
 
-fn is_wrong_field_use(resolver: &Resolver, is_static: bool, m: &Called) -> bool
+fn is_wrong_field_use(
+    resolver: &Resolver,
+    is_static: bool,
+    m: &Called,
+    found: Option<Found>,
+) -> bool
+    requires { found ≡ found_field resolver.now (seen_member m.now) }
     ensures { result ≡ is_wrong_field_use resolver.now is_static (seen_member m.now) }
 {
-    match resolver.field(m) {
+    match found {
         Some(found) => has_flag(field_flags(resolver.program(), &found), STATIC) != is_static,
         None => false,
     }
@@ -45,21 +54,23 @@ fn are_wrong_flags(op: u8, flags: u16) -> bool
         || op == INVOKESPECIAL && has_flag(flags, ABSTRACT)
 }
 
-fn finds_wrong_method(resolver: &Resolver, op: u8, m: &Called) -> bool
+fn finds_wrong_method(resolver: &Resolver, op: u8, m: &Called, found: Option<Found>) -> bool
+    requires { found ≡ found_method resolver.now (seen_member m.now) }
     ensures { result ≡ finds_wrong_method resolver.now op (seen_member m.now) }
 {
-    match resolver.method(m) {
+    match found {
         Some(found) => are_wrong_flags(op, method_flags(resolver.program(), &found)),
         None => false,
     }
 }
 
-fn is_wrong_call(resolver: &Resolver, op: u8, m: &Called) -> bool
+fn is_wrong_call(resolver: &Resolver, op: u8, m: &Called, found: Option<Found>) -> bool
+    requires { found ≡ found_method resolver.now (seen_member m.now) }
     ensures { result ≡ is_wrong_call resolver.now op (seen_member m.now) }
 {
     is_wrong_holder(resolver.program(), op, m)
         || is_wrong_name(op, m.name)
-        || finds_wrong_method(resolver, op, m)
+        || finds_wrong_method(resolver, op, m, found)
 }
 
 #[tactic(auto, unfolding(crate::specs::Uses::is_wrong_new))]
@@ -78,10 +89,12 @@ fn check_field(
     file: &ClassFile,
     is_static: bool,
     m: &Called,
+    found: Option<Found>,
 ) -> Result<(), LinkErr>
+    requires { found ≡ found_field resolver.now (seen_member m.now) }
     ensures { IsAnswer (wrong_field_use resolver.now file.now is_static (seen_member m.now)) result }
 {
-    let is_wrong = is_wrong_field_use(resolver, is_static, m);
+    let is_wrong = is_wrong_field_use(resolver, is_static, m, found);
     refuse_member_if(alloc, is_wrong, LinkWhy::WrongKind, file, m.name, m.desc)
 }
 
@@ -92,10 +105,12 @@ fn check_call(
     file: &ClassFile,
     op: u8,
     m: &Called,
+    found: Option<Found>,
 ) -> Result<(), LinkErr>
+    requires { found ≡ found_method resolver.now (seen_member m.now) }
     ensures { IsAnswer (wrong_call resolver.now file.now op (seen_member m.now)) result }
 {
-    let is_wrong = is_wrong_call(resolver, op, m);
+    let is_wrong = is_wrong_call(resolver, op, m, found);
     refuse_member_if(alloc, is_wrong, LinkWhy::WrongKind, file, m.name, m.desc)
 }
 
@@ -117,16 +132,25 @@ pub(crate) fn check_op(
     alloc: Global,
     resolver: &Resolver,
     file: &ClassFile,
+    items: &[Option<Found>],
     op: &Op,
 ) -> Result<(), LinkErr>
+    requires items { AreItems resolver.now file.now.pool items.now }
     ensures { IsAnswer (wrong_use resolver.now file.now op.now) result }
 {
     let pool = file.pool.as_slice();
     match op {
-        Op::Static { item, .. } => check_field(alloc, resolver, file, true, &member(pool, *item)),
-        Op::Field { item, .. } => check_field(alloc, resolver, file, false, &member(pool, *item)),
+        Op::Static { item, .. } => {
+            let found = field_at(resolver, pool, items, *item);
+            check_field(alloc, resolver, file, true, &member(pool, *item), found)
+        }
+        Op::Field { item, .. } => {
+            let found = field_at(resolver, pool, items, *item);
+            check_field(alloc, resolver, file, false, &member(pool, *item), found)
+        }
         Op::Invoke { op, item, .. } => {
-            check_call(alloc, resolver, file, *op, &member(pool, *item))
+            let found = method_at(resolver, pool, items, *item);
+            check_call(alloc, resolver, file, *op, &member(pool, *item), found)
         }
         Op::New(item) => check_new(alloc, resolver, file, class_text(pool, *item)),
         _ => Ok(()),

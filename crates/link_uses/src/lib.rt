@@ -3,6 +3,7 @@
 
 mod access;
 mod flags;
+mod items;
 mod kinds;
 mod lookup;
 mod missing;

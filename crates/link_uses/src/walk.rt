@@ -4,10 +4,12 @@ ghost use Rattle.std.specs.Prelude.{◌≡◌, map};
 ghost use Rattle.std.specs.List.{flat_map};
 ghost use Rattle.class_names.specs.Classes.{code_of, codes_of};
 ghost use Rattle.link_rules.specs.Answers.{IsAnswer};
+ghost use Rattle.link_uses.specs.Items.{AreItems};
 ghost use Rattle.link_uses.specs.Uses.{no_members, wrong_uses};
 ghost use Rattle.link_uses.specs.Walk.{broken, broken_placed, broken_in, broken_file};
 
-use crate::lookup::Resolver;
+use crate::items::file_items;
+use crate::lookup::{Found, Resolver};
 use crate::{kinds, missing};
 use class_format::{ClassFile, MethodItem};
 use code_table::{Code, Op, Placed};
@@ -27,13 +29,15 @@ fn check_op(
     resolver: &Resolver,
     rule: Rule,
     file: &ClassFile,
+    items: &[Option<Found>],
     op: &Op,
 ) -> Result<(), LinkErr>
+    requires items { AreItems resolver.now file.now.pool items.now }
     ensures { IsAnswer (broken rule resolver.now file.now op.now) result }
 {
     match rule {
-        Rule::Members => missing::check_op(alloc, resolver, file, op),
-        Rule::Kinds => kinds::check_op(alloc, resolver, file, op),
+        Rule::Members => missing::check_op(alloc, resolver, file, items, op),
+        Rule::Kinds => kinds::check_op(alloc, resolver, file, items, op),
     }
 }
 
@@ -43,12 +47,14 @@ fn check_ops(
     resolver: &Resolver,
     rule: Rule,
     file: &ClassFile,
+    items: &[Option<Found>],
     ops: &[Placed],
 ) -> Result<(), LinkErr>
+    requires items { AreItems resolver.now file.now.pool items.now }
     ensures { IsAnswer (flat_map (broken_placed rule resolver.now file.now) ops.now) result }
 {
     for placed in ops {
-        check_op(alloc, resolver, rule, file, &placed.op)?;
+        check_op(alloc, resolver, rule, file, items, &placed.op)?;
     }
     Ok(())
 }
@@ -59,14 +65,16 @@ fn check_method(
     resolver: &Resolver,
     rule: Rule,
     file: &ClassFile,
+    items: &[Option<Found>],
     method: &MethodItem,
     code: &Option<Code>,
 ) -> Result<(), LinkErr>
     requires code { code.now ≡ code_of file.now.pool method.now }
+    requires items { AreItems resolver.now file.now.pool items.now }
     ensures { IsAnswer (broken_in rule resolver.now file.now method.now) result }
 {
     let _flags = method.flags;
-    check_ops(alloc, resolver, rule, file, ops(code))
+    check_ops(alloc, resolver, rule, file, items, ops(code))
 }
 
 #[tactic(auto, using(link_rules::proofs::Firsts::places_break), unfolding(crate::specs::Walk::broken_file))]
@@ -80,9 +88,11 @@ fn check_file(
     requires codes { codes.now ≡ codes_of file.now }
     ensures { IsAnswer (broken_file rule resolver.now file.now) result }
 {
+    let items = file_items(alloc, resolver, file)?;
     let methods = file.methods.as_slice();
     for i in 0..methods.len() {
-        check_method(alloc, resolver, rule, file, &methods[i], &codes[i])?;
+        let found = items.as_slice();
+        check_method(alloc, resolver, rule, file, found, &methods[i], &codes[i])?;
     }
     Ok(())
 }
