@@ -112,11 +112,11 @@ is_none (x ∷ xs) = inr refl
 
 -- ---- what is given, by the frame
 
-given-clash : (p : Program) (m : Method) (at : ℕ) (f : FlowFrame) (e : Edge) → f.clash ≡ true → given p m at f e ≡ clash_frame
+pub given-clash : (p : Program) (m : Method) (at : ℕ) (f : FlowFrame) (e : Edge) → f.clash ≡ true → given p m at f e ≡ clash_frame
 unfolding given
 given-clash p m at f e c = pick_then f.clash _ _ c
 
-given-open : (p : Program) (m : Method) (at : ℕ) (f : FlowFrame) (e : Edge) → f.clash ≡ false → given p m at f e ≡ given_by p m at f e
+pub given-open : (p : Program) (m : Method) (at : ℕ) (f : FlowFrame) (e : Edge) → f.clash ≡ false → given p m at f e ≡ given_by p m at f e
 unfolding given
 given-open p m at f e c = pick_else f.clash _ _ c
 

@@ -5,5 +5,6 @@ pub mod GivenLaws
 pub mod Worklist
 pub mod PotentialLaws
 pub mod Ways
+pub mod Visits
 pub mod Turns
 pub mod Verdict

@@ -42,3 +42,11 @@ module _ (program : Program) (tree : IsTree (superclasses program)) (m : Method)
       let w : ℕ → ℕ = λ i. length (edges program m i) in
       let p : potential program m w fs (todo ++ (at ∷ [])) ≡ potential program m w fs todo + length (edges program m at) = pop-falls program tree m im w at fs todo in
       let q : s + potential program m w fs (todo ++ (at ∷ [])) ≤ bound = subst (λ z. s + potential program m w fs z ≤ bound) e b in omega arith
+
+  -- the same, where the frames are those from before
+  pub visit-falls : (at : ℕ) (fs hs gs : List (Option FlowFrame)) (old todo more : List ℕ) → hs ≡ fs → old ≡ todo ++ (at ∷ []) → ((w : ℕ → ℕ) → potential program m w gs more ≤ potential program m w hs todo) → turns_left program m gs more < turns_left program m fs old
+  visit-falls at fs hs gs old todo more q e h = subst (λ z. turns_left program m gs more < turns_left program m z old) q (turn-falls at hs gs old todo more e h)
+
+  pub visit-steps : (at s t bound : ℕ) (fs hs gs : List (Option FlowFrame)) (old todo more : List ℕ) → hs ≡ fs → old ≡ todo ++ (at ∷ []) → ((w : ℕ → ℕ) → potential program m w gs more ≤ potential program m w hs todo) → t ≤ s + length (edges program m at) → s + steps_left program m fs old ≤ bound → t + steps_left program m gs more ≤ bound
+  visit-steps at s t bound fs hs gs old todo more q e h l b =
+      turn-steps at s t bound hs gs old todo more e h l (subst (λ z. s + steps_left program m z old ≤ bound) (sym q) b)

@@ -1,5 +1,5 @@
 -- One way from an instruction, as the code goes it.
-use Rattle.std.proofs.Common.{refl, slice_set, ◌∙◌, sym, ap, ◌≡◌, subst, ℕ, ◌+◌, ◌<◌, ◌≤◌, List, length, slice_get, Option, Some, Result, Ok, Err, add-one, arith}
+use Rattle.std.proofs.Common.{refl, slice_set, ◌∙◌, sym, ap, ◌≡◌, subst, ℕ, zero, suc, ◌+◌, ◌<◌, ◌≤◌, List, [], ◌∷◌, ◌++◌, length, slice_get, Option, Some, None, Result, Ok, Err, ◌⊎◌, inl, inr, Bool, true, false, add-one, arith}
 use Rattle.std.specs.Prelude.{OnOk}
 use Rattle.flow_types.specs.Tree.{superclasses, IsTree}
 use Rattle.program_image.specs.Program.{Program}
@@ -12,7 +12,7 @@ use Rattle.flow_verifier.specs.Given.{given, target, edges}
 use Rattle.flow_verifier.proofs.GivenLaws.{given-frame, IsEdge, edge-is}
 use Rattle.flow_verifier.specs.Typing.{frame_at, FitsPlace}
 use Rattle.flow_verifier.specs.Going.{In, IsPartly}
-use Rattle.flow_verifier.specs.Flowing.{Flows, merged, waits}
+use Rattle.flow_verifier.specs.Flowing.{Flows, Rose, IsAlike, stays, rises, waits}
 use Rattle.flow_verifier.specs.Potential.{potential}
 use Rattle.flow_verifier.proofs.Worklist.{flow, partly-step}
 use Rattle.flow_verifier.proofs.PotentialLaws.{flow-falls}
@@ -25,11 +25,27 @@ target-inside : (supers : List (Option ℕ)) (n : ℕ) (e : Edge) → IsEdge sup
 target-inside supers n (Next to) h = h
 target-inside supers n (Caught to class) h = h.0
 
--- a rise of what is flagged
-pub waits-from : (supers : List (Option ℕ)) (g n : FlowFrame) (to : ℕ) (old : Option FlowFrame) (fs gs : List (Option FlowFrame)) (todo : List ℕ) → frame_at fs to ≡ old → (n ≡ merged supers old g) × (FitsPlace supers g old → ⊥) → gs ≡ slice_set fs to (Some n) → In to todo → Flows supers g to fs todo gs todo
-waits-from supers g n to old fs gs todo e h f i =
-    let k : n ≡ merged supers (frame_at fs to) g = h.0 ∙ ap (λ z. merged supers z g) (sym e) in
-    waits (λ q. (h.1) (subst (λ z. FitsPlace supers g z) e q)) (f ∙ ap (λ z. slice_set fs to (Some z)) k) refl i
+-- a place that is set to what it has is as it was
+set-same : (fs : List (Option FlowFrame)) (i : ℕ) → slice_set fs i (frame_at fs i) ≡ fs
+set-same [] i = refl
+set-same (x ∷ xs) zero = refl
+set-same (x ∷ xs) (suc i) = ap (λ zs. x ∷ zs) (set-same xs i)
+
+-- how the list is once a place stands on it
+abbrev pub Listed : ℕ → List ℕ → List ℕ → Type 0
+Listed to todo more = (more ≡ todo ++ (to ∷ [])) ⊎ ((more ≡ todo) × In to todo)
+
+pub rose-at : (supers : List (Option ℕ)) (g : FlowFrame) (o before after : Option FlowFrame) (b d : Bool) → o ≡ before → b ≡ d → Rose supers g before after b → Rose supers g o after d
+rose-at supers g o before after b d e f h = subst (λ z. Rose supers g z after d) (sym e) (subst (λ z. Rose supers g before after z) f h)
+
+-- the frame of a place rose
+pub rose-flows : (supers : List (Option ℕ)) (g : FlowFrame) (to : ℕ) (after : Option FlowFrame) (fs gs : List (Option FlowFrame)) (todo more : List ℕ) → Rose supers g (frame_at fs to) after true → gs ≡ slice_set fs to after → Listed to todo more → Flows supers g to fs todo gs more
+rose-flows supers g to after fs gs todo more (e, n) s (inl l) = rises n (s ∙ ap (slice_set fs to) e) l
+rose-flows supers g to after fs gs todo more (e, n) s (inr l) = waits n (s ∙ ap (slice_set fs to) e) (l.0) (l.1)
+
+-- the place took the frame
+pub calm-flows : (supers : List (Option ℕ)) (g : FlowFrame) (to : ℕ) (after : Option FlowFrame) (fs gs : List (Option FlowFrame)) (todo : List ℕ) → Rose supers g (frame_at fs to) after false → gs ≡ slice_set fs to after → Flows supers g to fs todo gs todo
+calm-flows supers g to after fs gs todo (e, n) s = stays n (s ∙ ap (slice_set fs to) e ∙ set-same fs to) refl
 
 pub flows-at : (supers : List (Option ℕ)) (g h : FlowFrame) (to at : ℕ) (fs gs : List (Option FlowFrame)) (todo more : List ℕ) → g ≡ h → to ≡ at → Flows supers g to fs todo gs more → Flows supers h at fs todo gs more
 flows-at supers g h to at fs gs todo more e f w = subst (λ z. Flows supers z at fs todo gs more) e (subst (λ z. Flows supers g z fs todo gs more) f w)

@@ -46,7 +46,7 @@ get-set-other (x ∷ xs) zero (suc j) o n = refl
 get-set-other (x ∷ xs) (suc i) zero o n = refl
 get-set-other (x ∷ xs) (suc i) (suc j) o n = get-set-other xs i j o (λ e. n (ap suc e))
 
-set-length : (fs : List (Option FlowFrame)) (i : ℕ) (o : Option FlowFrame) → length (slice_set fs i o) ≡ length fs
+pub set-length : (fs : List (Option FlowFrame)) (i : ℕ) (o : Option FlowFrame) → length (slice_set fs i o) ≡ length fs
 set-length [] i o = refl
 set-length (x ∷ xs) zero o = refl
 set-length (x ∷ xs) (suc i) o = ap suc (set-length xs i o)
@@ -117,7 +117,7 @@ module _ (program : Program) (tree : IsTree (superclasses program)) (m : Method)
 
   -- what is merged: a frame above both, and below all above both
   pub merged-frame : (o : Option FlowFrame) (g : FlowFrame) → ((f : FlowFrame) → o ≡ Some f → IsFrame (superclasses program) (room_of m) f) → IsFrame (superclasses program) (room_of m) g → IsFrame (superclasses program) (room_of m) (merged (superclasses program) o g)
-  merged-frame None g h x = join-frame (superclasses program) tree (room_of m) g g x x
+  merged-frame None g h x = x
   merged-frame (Some f) g h x = join-frame (superclasses program) tree (room_of m) f g (h f refl) x
 
   pub merged-left : (o : Option FlowFrame) (g : FlowFrame) → ((f : FlowFrame) → o ≡ Some f → IsFrame (superclasses program) (room_of m) f) → IsFrame (superclasses program) (room_of m) g → FitsThere (superclasses program) o (Some (merged (superclasses program) o g))
@@ -125,12 +125,12 @@ module _ (program : Program) (tree : IsTree (superclasses program)) (m : Method)
   merged-left (Some f) g h x = join-left (superclasses program) tree (room_of m) f g (h f refl) x
 
   merged-right : (o : Option FlowFrame) (g : FlowFrame) → ((f : FlowFrame) → o ≡ Some f → IsFrame (superclasses program) (room_of m) f) → IsFrame (superclasses program) (room_of m) g → frame_fits (superclasses program) g (merged (superclasses program) o g) ≡ true
-  merged-right None g h x = join-right (superclasses program) tree (room_of m) g g x x
+  merged-right None g h x = frame-refl (superclasses program) tree (room_of m) g
   merged-right (Some f) g h x = join-right (superclasses program) tree (room_of m) f g (h f refl) x
 
   merged-least : (o : Option FlowFrame) (g : FlowFrame) (p : Option FlowFrame) → ((f : FlowFrame) → p ≡ Some f → IsFrame (superclasses program) (room_of m) f) → FitsThere (superclasses program) o p → FitsPlace (superclasses program) g p → FitsPlace (superclasses program) (merged (superclasses program) o g) p
   merged-least o g None h a b = absurd b
-  merged-least None g (Some u) h a b = join-least (superclasses program) tree (room_of m) g g u (h u refl) b b
+  merged-least None g (Some u) h a b = b
   merged-least (Some f) g (Some u) h a b = join-least (superclasses program) tree (room_of m) f g u (h u refl) a b
 
   -- a frame that takes no other isn't the two merged

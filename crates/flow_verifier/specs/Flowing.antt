@@ -1,5 +1,5 @@
 -- What one flow does to the frames and to the list of those that rose.
-use Rattle.std.specs.Prelude.{◌≡◌, ℕ, List, [], ◌∷◌, ◌++◌, slice_set, Option, Some, None}
+use Rattle.std.specs.Prelude.{◌≡◌, ℕ, Bool, true, false, length, List, [], ◌∷◌, ◌++◌, slice_set, Option, Some, None}
 use Rattle.flow_types.specs.Frames.{frame_joined}
 use Rattle.flow_types.specs.declared.flow_frame.FlowFrame.{FlowFrame}
 use Rattle.flow_verifier.specs.Going.{In}
@@ -7,8 +7,20 @@ use Rattle.flow_verifier.specs.Typing.{frame_at, FitsPlace}
 
 -- the frame of a place, if it has one, once another flows there
 abbrev pub merged : List (Option ℕ) → Option FlowFrame → FlowFrame → FlowFrame
-merged supers None g = frame_joined supers g g
+merged supers None g = g
 merged supers (Some f) g = frame_joined supers f g
+
+-- a frame has as many locals as that of a place, if neither is the clash frame
+abbrev pub IsAlike : FlowFrame → Option FlowFrame → Type 0
+IsAlike g None = Unit {0}
+IsAlike g (Some f) = f.clash ≡ false → g.clash ≡ false → length f.locals ≡ length g.locals
+
+-- a frame has flowed to a place, of which the frame rose or took it already
+abbrev pub Rose :
+    List (Option ℕ) → FlowFrame → (before after : Option FlowFrame) → Bool → Type 0
+Rose supers g before after true =
+    (after ≡ Some (merged supers before g)) × (FitsPlace supers g before → ⊥)
+Rose supers g before after false = (after ≡ before) × FitsPlace supers g before
 
 -- a frame has flowed to a place: its frame takes it and stays, or rises, and is put on the list
 -- where it doesn't wait there already

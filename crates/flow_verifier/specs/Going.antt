@@ -1,12 +1,18 @@
 -- What holds while frames still rise.
 use Rattle.program_image.specs.Program.{Program}
 use Rattle.flow_types.specs.Tree.{superclasses}
-use Rattle.std.specs.Prelude.{Bool, true, ◌≡◌, ℕ, ◌<◌, ◌⊎◌, List, [], ◌∷◌, slice_get, Option, Some}
-use Rattle.flow_types.specs.Frames.{IsFrame}
+use Rattle.std.specs.Prelude.{Bool, true, false, ◌≡◌, ℕ, ◌<◌, ◌⊎◌, List, [], ◌∷◌, length, slice_get, slice_set, Option, Some, None}
+use Rattle.std.specs.Bool.{MatchBool}
+use Rattle.std.proofs.Math.ListN.{replicate}
+use Rattle.flow_types.specs.Frames.{clash_frame, IsFrame}
+use Rattle.flow_types.specs.declared.flow_type.FlowType.{FlowType}
 use Rattle.flow_types.specs.declared.flow_frame.FlowFrame.{FlowFrame}
 use Rattle.flow_verifier.specs.declared.method.Method.{Method}
 use Rattle.flow_verifier.specs.declared.method.Edge.{Edge}
-use Rattle.flow_verifier.specs.Methods.{room_of}
+use Rattle.flow_verifier.specs.declared.method.Edge.TheVariants.{Next, Caught}
+use Rattle.flow_verifier.specs.declared.rising.Rising.{Rising}
+use Rattle.flow_verifier.specs.declared.visit.Visit.{Visit}
+use Rattle.flow_verifier.specs.Methods.{ops_of, room_of}
 use Rattle.flow_verifier.specs.Given.{given, target, edges}
 use Rattle.flow_verifier.specs.Typing.{frame_at, FitsPlace, FitsThere, entry_frame, IsAssignment, IsClosed}
 
@@ -48,3 +54,35 @@ pub record IsPartly (p : Program) (m : Method) (at : ℕ) (f : FlowFrame) (j : �
   pub own : In at todo ⊎ ((frame_at fs at ≡ Some f)
       × ((k : ℕ) (e : Edge) → k < j → slice_get (edges p m at) k ≡ Some e →
       FitsPlace (superclasses p) (given p m at f e) (frame_at fs (target e))))
+
+-- ---- the code's view
+
+-- each place has a flag, and who is flagged stands on the list
+pub record IsMarked (s : Rising) : Type 0 where
+  pub wide : length s.queued ≡ length s.frames
+  pub flags : IsFlagged s.queued s.todo
+
+-- no frame but the entry's, which is on the list
+pub record IsStart (p : Program) (m : Method) (s : Rising) : Type 0 where
+  pub frames : s.frames ≡ slice_set (replicate (length (ops_of p m.number)) None) 0 (Some (entry_frame m))
+  pub todo : s.todo ≡ 0 ∷ []
+  pub marked : IsMarked s
+
+-- a frame's locals below one operand; the clash frame for itself
+abbrev pub IsCatcher : FlowFrame → FlowFrame → Type 0
+IsCatcher f c = MatchBool f.clash (c ≡ clash_frame)
+    ((c.clash ≡ false) × (c.locals ≡ f.locals) × (c.fresh ≡ f.fresh) × (length c.stack ≡ 1))
+
+-- what flows from the instruction at a place that has the frame
+pub record IsFlowing (p : Program) (m : Method) (f : FlowFrame) (v : Visit) : Type 0 where
+  pub edges : v.edges ≡ edges p m v.at
+  pub next : (to : ℕ) → v.next ≡ given p m v.at f (Next to)
+  pub caught : (k to class : ℕ) →
+      slice_get v.edges k ≡ Some (Caught to class) → IsCatcher f v.caught
+
+-- it has gone along the first j ways
+pub record IsVisiting (p : Program) (m : Method) (v : Visit) (j : ℕ) (s : Rising) : Type 0 where
+  pub frame : FlowFrame
+  pub flowing : IsFlowing p m frame v
+  pub partly : IsPartly p m v.at frame j s.frames s.todo
+  pub marked : IsMarked s

@@ -13,9 +13,9 @@ ghost use Rattle.flow_verifier.specs.Given.{work_of, frame_of_work, depth_rules,
 
 use crate::method::{Edge, Method, ops_of};
 use code_table::Placed;
-use flow_types::{FlowFrame, FlowType, is_sub};
+use flow_types::{FlowFrame, is_sub};
 use instruction_table::{Stack, THROWABLE, Work, falls, lower, row_of, rule};
-use jvm_base::{List, NoMemory};
+use jvm_base::NoMemory;
 use program_image::Image;
 use std::alloc::Global;
 
@@ -226,41 +226,5 @@ pub(crate) fn given_next(
     match worked.rule {
         Some(_) => Ok(FlowFrame::clash(alloc)),
         None => Ok(frame_of_work(worked.work)),
-    }
-}
-
-/// What the instruction at a place gives to a handler of a class.
-#[tactic(auto, unfolding(crate::specs::Given::given))]
-pub(crate) fn given_caught(alloc: Global, f: &FlowFrame, class: u32) -> Result<FlowFrame, NoMemory>
-    ensures { IfOk result (λ g. (p : Program) (m : Method) (i to : ℕ) → g ≡ given p m i f.now (Edge.Caught to class)) }
-{
-    if f.clash {
-        return Ok(FlowFrame::clash(alloc));
-    }
-    let mut locals = List::new(alloc);
-    locals.append(f.locals.as_slice())?;
-    let mut stack = List::new(alloc);
-    stack.push(FlowType::Class(class))?;
-    Ok(FlowFrame {
-        locals,
-        stack,
-        fresh: f.fresh,
-        clash: false,
-    })
-}
-
-/// What the instruction gives along an edge, where `next` is what it gives to those that control
-/// goes on to.
-pub(crate) fn given_along(
-    alloc: Global,
-    next: &FlowFrame,
-    f: &FlowFrame,
-    edge: Edge,
-) -> Result<FlowFrame, NoMemory>
-    ensures { IfOk result (λ g. (p : Program) (m : Method) (i : ℕ) → ((to : ℕ) → next.now ≡ given p m i f.now (Edge.Next to)) → g ≡ given p m i f.now edge) }
-{
-    match edge {
-        Edge::Next(_) => next.copy(alloc),
-        Edge::Caught { to: _, class } => given_caught(alloc, f, class),
     }
 }

@@ -6,8 +6,10 @@ mod edges;
 mod frames;
 mod given;
 mod method;
+mod rising;
 mod solver;
 mod verifying;
+mod visit;
 
 pub use answer::{FlowErr, VerifyErr};
 pub use frames::Frames;

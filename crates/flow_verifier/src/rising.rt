@@ -1,0 +1,172 @@
+//! The frames so far, and the places whose frames rose.
+
+ghost use Rattle.std.specs.Prelude.{◌≡◌, ◌+◌, ◌<◌, ◌≤◌, ◌↔◌, ◌∷◌, ◌++◌, ◌⊎◌, [], length, slice_get, slice_set, OnOk, IfOk, MatchOption, IsTrue, true, false, Some, None, ℕ};
+ghost use Rattle.std.proofs.Math.ListN.{replicate};
+ghost use Rattle.flow_types.specs.Tree.{superclasses, IsTree};
+ghost use Rattle.flow_verifier.specs.Methods.{ops_of};
+ghost use Rattle.flow_verifier.specs.Typing.{frame_at, entry_frame};
+ghost use Rattle.flow_verifier.specs.Flowing.{Flows, Rose, IsAlike};
+ghost use Rattle.flow_verifier.specs.Going.{In, IsFlagged, IsMarked, IsStart};
+
+use crate::method::{Method, ops_of};
+use flow_types::{FlowFrame, Steps};
+use jvm_base::{List, NoMemory};
+use program_image::Image;
+use std::alloc::Global;
+use std::sync::ledger::Ledger;
+
+/// The frames so far, the places to visit since their frames rose, and for each place whether it
+/// is among these.
+#[derive(Drop)]
+pub(crate) struct Rising {
+    pub frames: List<Option<FlowFrame>>,
+    pub todo: List<u32>,
+    pub queued: List<bool>,
+}
+
+/// Lets a frame flow to a place, and tells whether the place's frame rose.
+fn rise(
+    alloc: Global,
+    image: &Image,
+    place: &mut Option<FlowFrame>,
+    g: &FlowFrame,
+) -> Result<bool, NoMemory>
+    requires tree { IsTree (superclasses image.now) }
+    requires alike { IsAlike g.now place.old }
+    ensures { IfOk result (λ rose. Rose (superclasses image.now) g.now place.old place.new rose) }
+{
+    match place {
+        Some(f) => {
+            if f.takes(image, g) {
+                return Ok(false);
+            }
+            f.raise(alloc, image, g);
+        }
+        None => *place = Some(g.copy(alloc)?),
+    }
+    Ok(true)
+}
+
+/// The frame in which a method begins.
+fn entry(alloc: Global, m: &Method) -> Result<FlowFrame, NoMemory>
+    ensures { IfOk result (λ f. f ≡ entry_frame m.now) }
+{
+    let mut locals = List::new(alloc);
+    locals.append(m.entry.as_slice())?;
+    Ok(FlowFrame {
+        locals,
+        stack: List::new(alloc),
+        fresh: m.fresh,
+        clash: false,
+    })
+}
+
+fn no_frames(alloc: Global, count: usize) -> Result<List<Option<FlowFrame>>, NoMemory>
+    ensures { IfOk result (λ fs. fs ≡ replicate count None) }
+{
+    let mut frames = List::new(alloc);
+    for _ in 0..count {
+        frames.push(None)?;
+    }
+    Ok(frames)
+}
+
+fn no_flags(alloc: Global, count: usize) -> Result<List<bool>, NoMemory>
+    ensures { IfOk result (λ qs. qs ≡ replicate count false) }
+{
+    let mut flags = List::new(alloc);
+    for _ in 0..count {
+        flags.push(false)?;
+    }
+    Ok(flags)
+}
+
+fn clear(queued: &mut List<bool>, at: u32)
+    ensures { queued.new ≡ slice_set queued.old at false }
+{
+    if (at as usize) < queued.len() {
+        queued.set(at as usize, false);
+    }
+}
+
+impl Rising {
+    /// No frames but the entry's, which is to be visited.
+    pub fn start(alloc: Global, image: &Image, m: &Method) -> Result<Rising, NoMemory>
+        requires within { m.now.number < length image.now.methods }
+        requires some { 0 < length (ops_of image.now m.now.number) }
+        ensures { IfOk result (λ s. IsStart image.now m.now s) }
+    {
+        let count = ops_of(image, m.number).len();
+        let mut frames = no_frames(alloc, count)?;
+        frames.set(0, Some(entry(alloc, m)?));
+        let queued = no_flags(alloc, count)?;
+        let mut todo = List::new(alloc);
+        todo.push(0)?;
+        Ok(Rising {
+            frames,
+            todo,
+            queued,
+        })
+    }
+
+    /// Takes a place off the list.
+    pub fn pop(&mut self) -> Option<u32>
+        requires marked { IsMarked self.old }
+        ensures marked { IsMarked self.new }
+        ensures frames { self.new.frames ≡ self.old.frames }
+        ensures todo { MatchOption result (self.old.todo ≡ []) (λ at. self.old.todo ≡ self.new.todo ++ at ∷ []) }
+    {
+        let at = self.todo.pop()?;
+        clear(&mut self.queued, at);
+        Some(at)
+    }
+
+    fn is_queued(&self, at: u32) -> bool
+        ensures { IsTrue result ↔ (slice_get self.now.queued at ≡ Some true) }
+    {
+        match self.queued.get(at as usize) {
+            Some(flag) => *flag,
+            None => false,
+        }
+    }
+
+    /// Puts a place on the list, where it doesn't stand there.
+    fn mark(&mut self, to: u32) -> Result<(), NoMemory>
+        requires marked { IsMarked self.old }
+        requires within { to < length self.old.frames }
+        ensures marked { OnOk result (IsMarked self.new) }
+        ensures frames { self.new.frames ≡ self.old.frames }
+        ensures todo { OnOk result ((self.new.todo ≡ self.old.todo ++ to ∷ []) ⊎ ((self.new.todo ≡ self.old.todo) × In to self.old.todo)) }
+    {
+        if self.is_queued(to) {
+            return Ok(());
+        }
+        self.queued.set(to as usize, true);
+        self.todo.push(to)
+    }
+
+    /// Lets a frame flow to a place, which is one step.
+    pub fn flow<L: Ledger>(
+        &mut self,
+        alloc: Global,
+        image: &Image,
+        g: &FlowFrame,
+        to: u32,
+        steps: &mut Steps<L>,
+    ) -> Result<(), NoMemory>
+        requires tree { IsTree (superclasses image.now) }
+        requires marked { IsMarked self.old }
+        requires within { to < length self.old.frames }
+        requires alike { IsAlike g.now (frame_at self.old.frames to) }
+        ensures marked { OnOk result (IsMarked self.new) }
+        ensures flows { OnOk result (Flows (superclasses image.now) g.now to self.old.frames self.old.todo self.new.frames self.new.todo) }
+        ensures cost { steps.new ≤ steps.old + 1 }
+    {
+        steps.tick();
+        let rose = match self.frames.get_mut(to as usize) {
+            Some(place) => rise(alloc, image, place, g)?,
+            None => unreachable!(),
+        };
+        if rose { self.mark(to) } else { Ok(()) }
+    }
+}
