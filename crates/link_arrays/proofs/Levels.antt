@@ -1,8 +1,9 @@
 -- Laws of array types and their parts.
-use Rattle.std.proofs.Common.{◌≡◌, ℕ, zero, suc, ◌+◌, ◌-◌, ◌<◌, ◌≤◌, Bool, true, false, ◌||◌, ◌==◌, List, [], ◌∷◌, ◌++◌, ap, sym, ◌∙◌, subst, refl, arith, inl, inr, ◌⊎◌}
+use Rattle.std.proofs.Common.{◌≡◌, ℕ, zero, suc, ◌+◌, ◌-◌, ◌<◌, ◌≤◌, Bool, true, false, ◌||◌, ◌==◌, List, [], ◌∷◌, ◌++◌, ap, sym, ◌∙◌, subst, refl, arith, inl, inr}
 use Rattle.std.specs.Prelude.{◌&&◌, if◌then◌else◌}
 use Rattle.std.specs.List.{flat_map}
-use Rattle.std.proofs.lemmas.Bool.{cases_lt}
+use Rattle.std.proofs.Math.Bool.{or-false}
+use Rattle.std.proofs.lemmas.Bool.{cases_lt, or_cases, or_left, or_right}
 use Rattle.std.proofs.lemmas.Bool.Decides.{nat_tests}
 use Rattle.std.proofs.lemmas.List.Folds.{list_any-append}
 use Rattle.jvm_base.specs.declared.desc.Desc.{Desc}
@@ -16,18 +17,6 @@ use Rattle.link_arrays.proofs.SeenLaws.{seen_one, seen_items}
 use Rattle.link_arrays.proofs.Types.{descs_equivalent}
 
 -- ---- what is seen among the levels of a type
-
--- it passes where either passes
-or_cases : (a b : Bool) → (a || b) ≡ true → (a ≡ true) ⊎ (b ≡ true)
-or_cases true b e = inl refl
-or_cases false b e = inr e
-
-or_left : (a b : Bool) → a ≡ true → (a || b) ≡ true
-or_left a b e = ap (λ c. c || b) e
-
-or_right : (a b : Bool) → b ≡ true → (a || b) ≡ true
-or_right true b e = refl
-or_right false b e = e
 
 -- the same element type at other dimensions
 same_level : (m n : ℕ) (d e : Elem) → same_desc (array m d) (array n e) ≡ true → (m ≡ n) × (same_elem d e ≡ true)
@@ -124,12 +113,8 @@ lower_more types now new n e p lower added m h =
     ap (λ z. is_seen same_desc z (array m e)) added
     ∙ seen_one same_desc descs_equivalent now (array n e) (array m e)
     ∙ ap (λ b. is_seen same_desc now (array m e) || (b && same_elem e e)) (let q : (m == n) ≡ false = grind (arith, nat_tests) in q)
-    ∙ or_false (is_seen same_desc now (array m e))
+    ∙ or-false (is_seen same_desc now (array m e))
     ∙ lower m (omega arith)
-  where
-    or_false : (a : Bool) → (a || false) ≡ a
-    or_false true = refl
-    or_false false = refl
 
 -- what is left of the levels after one
 pub levels_more : (now new : List Desc) (n : ℕ) (e : Elem) → 0 < n → new ≡ with_item same_desc now (array n e) → with_items same_desc now (levels n e) ≡ with_items same_desc new (levels (n - 1) e)

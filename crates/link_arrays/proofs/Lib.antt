@@ -3,3 +3,5 @@ pub mod Types
 pub mod Levels
 pub mod Counted
 pub mod ClosedNames
+pub mod ArrayLaws
+pub mod LiteralLaws

@@ -4,6 +4,8 @@ use Rattle.std.specs.Prelude.{if◌then◌else◌}
 use Rattle.std.specs.Cmp.{IsEquivalence}
 use Rattle.std.specs.List.{flat_map, list_any, IsDistinct}
 use Rattle.std.proofs.lemmas.List.{at_drop_more}
+use Rattle.std.proofs.lemmas.Bool.{or_right}
+use Rattle.std.proofs.Math.Bool.{or-false, or_assoc}
 use Rattle.std.proofs.lemmas.List.Folds.{list_any-append}
 use Rattle.std.proofs.lemmas.Map.Keys.{IsDistinct-push}
 use Rattle.numbering.specs.Seen.{is_seen, with_item}
@@ -13,18 +15,6 @@ use Rattle.link_arrays.specs.Seen.{with_items}
 pub items_append : {A : Type 0} (E : A → A → Bool) (items xs ys : List A) → with_items E items (xs ++ ys) ≡ with_items E (with_items E items xs) ys
 items_append E items [] ys = refl
 items_append E items (x ∷ xs) ys = items_append E (with_item E items x) xs ys
-
-or_false : (a : Bool) → a ≡ (a || false)
-or_false true = refl
-or_false false = refl
-
-or_assoc : (a b c : Bool) → ((a || b) || c) ≡ (a || (b || c))
-or_assoc true b c = refl
-or_assoc false b c = refl
-
-or_true : (a b : Bool) → b ≡ true → (a || b) ≡ true
-or_true true b e = refl
-or_true false b e = e
 
 -- two tests that agree find the same
 pub any_same : {A : Type 0} (p q : A → Bool) (xs : List A) → ((x : A) → p x ≡ q x) → list_any p xs ≡ list_any q xs
@@ -36,13 +26,13 @@ pub seen_one : {A : Type 0} (E : A → A → Bool) → IsEquivalence E → (item
 seen_one E laws items x z = by (is_seen E items x) refl (E z x) refl
   where
     by : (b : Bool) → is_seen E items x ≡ b → (e : Bool) → E z x ≡ e → is_seen E (if b then items else items ++ x ∷ []) z ≡ (is_seen E items z || e)
-    by true h true e = any_same (E z) (E x) items (λ y. laws.congr z x y e) ∙ h ∙ sym (or_true (is_seen E items z) true refl)
-    by true h false e = or_false (is_seen E items z)
-    by false h b e = list_any-append (E z) items (x ∷ []) ∙ ap (λ c. is_seen E items z || (c || false)) e ∙ ap (λ c. is_seen E items z || c) (sym (or_false b))
+    by true h true e = any_same (E z) (E x) items (λ y. laws.congr z x y e) ∙ h ∙ sym (or_right (is_seen E items z) true refl)
+    by true h false e = sym (or-false (is_seen E items z))
+    by false h b e = list_any-append (E z) items (x ∷ []) ∙ ap (λ c. is_seen E items z || (c || false)) e ∙ ap (λ c. is_seen E items z || c) (or-false b)
 
 -- what is seen after some items was seen before, or is one of them
 pub seen_items : {A : Type 0} (E : A → A → Bool) → IsEquivalence E → (items xs : List A) (z : A) → is_seen E (with_items E items xs) z ≡ (is_seen E items z || is_seen E xs z)
-seen_items E laws items [] z = or_false (is_seen E items z)
+seen_items E laws items [] z = sym (or-false (is_seen E items z))
 seen_items E laws items (x ∷ xs) z =
     seen_items E laws (with_item E items x) xs z
     ∙ ap (λ b. b || is_seen E xs z) (seen_one E laws items x z)
