@@ -7,5 +7,6 @@ pub mod TargetPlaces
 pub mod ClassLaws
 pub mod Apart
 pub mod Within
+pub mod MainLaw
 pub mod IsImageLaw
 pub mod SizeLaws

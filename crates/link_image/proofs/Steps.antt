@@ -25,6 +25,12 @@ item_at [] i h = absurd (omega arith)
 item_at (x ∷ xs) zero h = x
 item_at (x ∷ xs) (suc i) h = item_at xs i (omega arith)
 
+pub item_there : {A : Type 0} (xs : List A) (i : ℕ) (h : i < length xs) → slice_get xs i ≡ Some (item_at xs i h)
+unfolding item_at
+item_there [] i h = absurd (omega arith)
+item_there (x ∷ xs) zero h = refl
+item_there (x ∷ xs) (suc i) h = item_there xs i (omega arith)
+
 -- one more item, of which only the number counts
 pub count_more : {A B : Type 0} (g : ℕ → B) (xs : List A) (k i : ℕ) (whole done : List B) (y : B) → i < length xs → whole ≡ done ++ map_from (λ n x. g n) k (drop i xs) → y ≡ g k → whole ≡ (done ++ y ∷ []) ++ map_from (λ n x. g n) (k + 1) (drop (i + 1) xs)
 count_more g xs k i whole done y h e q = map_more (λ n x. g n) xs k i (item_at xs i h) whole done y h e q

@@ -7,3 +7,4 @@ pub mod Image
 pub mod Sizes
 pub mod Parts
 pub mod Kept
+pub mod Seen

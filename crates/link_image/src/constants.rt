@@ -3,20 +3,15 @@
 ghost use Rattle.std.specs.Prelude.{◌≡◌, ◌+◌, ◌<◌, ◌^◌, length};
 ghost use Rattle.link_image.specs.Constants.{literal_value, constant_value};
 
-use class_names::{Names, text};
-use jvm_base::{Name, PoolItem, Value};
-
-/// The node of objects that are there before the first step.
-const PREMADE_NODE: u8 = 255;
-
-/// The number of `java/lang/String` among the boot classes.
-const STRING_CLASS: u32 = 2;
+use class_names::text;
+use jvm_base::{PoolItem, Value};
+use link_arrays::{Literals, literal_name};
 
 /// What constants stand for: `classes` counts the classes of the program, array classes among them.
 #[derive(Clone, Copy)]
 pub(crate) struct Constants<'a, 'b> {
     pub(crate) classes: u32,
-    pub(crate) literals: &'a Names<'b>,
+    pub(crate) literals: &'a Literals<'b>,
 }
 
 /// The object of a literal's text.
@@ -25,11 +20,7 @@ fn literal(constants: &Constants<'_, '_>, text: &[u16]) -> Option<Value>
     ensures { result ≡ literal_value constants.now.classes constants.now.literals.now text.now }
 {
     let number = constants.literals.number(text)?;
-    Some(Value::Ref(Name {
-        node: PREMADE_NODE,
-        class: STRING_CLASS,
-        index: constants.classes + number as u32,
-    }))
+    Some(Value::Ref(literal_name(constants.classes, number as u32)))
 }
 
 /// The value of the constant at an index; `None` where no int, long or string stands there.

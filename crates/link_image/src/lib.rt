@@ -5,5 +5,10 @@ mod bases;
 mod classes;
 mod constants;
 mod fields;
+mod image;
+mod lookup;
 mod methods;
 mod reversed;
+mod targets;
+
+pub use image::build;

@@ -1,6 +1,6 @@
 //! Lists the other way round.
 
-ghost use Rattle.std.specs.Prelude.{◌≡◌, reverse, IfOk};
+ghost use Rattle.std.specs.Prelude.{◌≡◌, ◌++◌, reverse, IfOk};
 
 use jvm_base::{List, NoMemory};
 use std::alloc::Global;
@@ -15,4 +15,20 @@ pub(crate) fn reversed<T: Drop>(alloc: Global, items: List<T>) -> Result<List<T>
         other.push(item)?;
     }
     Ok(other)
+}
+
+/// The items of the first list, and those of the second behind them.
+pub(crate) fn joined<T: Drop>(
+    alloc: Global,
+    first: List<T>,
+    second: List<T>,
+) -> Result<List<T>, NoMemory>
+    ensures { IfOk result (λ all. all ≡ first ++ second) }
+{
+    let mut all = first;
+    let mut rest = reversed(alloc, second)?;
+    while let Some(item) = rest.pop() {
+        all.push(item)?;
+    }
+    Ok(all)
 }
