@@ -5,3 +5,4 @@ pub mod Counted
 pub mod ClosedNames
 pub mod ArrayLaws
 pub mod LiteralLaws
+pub mod Examples
