@@ -8,8 +8,9 @@ use Rattle.frame_ops.specs.declared.answer.Pure.{Pure}
 use Rattle.frame_ops.specs.declared.answer.Pure.TheVariants as pure
 
 -- It goes to the next instruction or jumps to an address, with these operands; sets locals from one
--- on, with these operands; raises or throws; asks for something that threads share; calls; or leaves with
--- a result. Stuck is no instruction that was verified: its operands are missing or of another kind.
+-- on, with these operands; raises or throws; asks for something that threads share; calls; or
+-- leaves with a result. Stuck is no instruction that was verified: its operands are missing or of
+-- another kind.
 pub data Move : Type 0 where
   Goes : List Value → Move
   Jumps : ℕ → List Value → Move
@@ -34,7 +35,8 @@ locals_set i (v ∷ vs) locals = locals_set (i + 1) vs (slice_set locals i v)
 abbrev pub frame_after : Move → ℕ → Frame → Frame
 frame_after (Goes vs) next f = frame_moved f next vs
 frame_after (Jumps to vs) next f = frame_moved f to vs
-frame_after (Sets i new vs) next f = record (frame_moved f next vs) { locals = locals_set i new f.locals }
+frame_after (Sets i new vs) next f =
+    record (frame_moved f next vs) { locals = locals_set i new f.locals }
 frame_after _ next f = f
 
 -- what a move is called

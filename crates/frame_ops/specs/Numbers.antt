@@ -8,7 +8,8 @@ use Rattle.code_table.specs.declared.opcode.TheConstants as code
 abbrev pub arithmetic : ℕ → Width → ℤ → ℤ → ℤ
 arithmetic o w a b =
     if o == code.IADD || o == code.LADD then int_wrapping_add w a b
-    else (if o == code.ISUB || o == code.LSUB then int_wrapping_sub w a b else int_wrapping_mul w a b)
+    else
+    (if o == code.ISUB || o == code.LSUB then int_wrapping_sub w a b else int_wrapping_mul w a b)
 
 -- the quotient toward zero, or the remainder, which has the dividend's sign
 abbrev pub division : ℕ → Width → ℤ → ℤ → ℤ
@@ -24,7 +25,8 @@ bitwise o w a b =
 abbrev pub shifted : ℕ → Width → ℤ → ℕ → ℤ
 shifted o w a k =
     if o == code.ISHL || o == code.LSHL then int_shl w a k
-    else (if o == code.ISHR || o == code.LSHR then int_shr a k else cast_signed w (cast_unsigned w a / 2 ^ k))
+    else
+    (if o == code.ISHR || o == code.LSHR then int_shr a k else cast_signed w (cast_unsigned w a / 2 ^ k))
 
 -- the shift that an int's low bits tell, of so many places that there are
 abbrev pub shift_count : ℕ → ℤ → ℕ

@@ -1,6 +1,6 @@
 -- How instructions take their operands, the newest first.
-use Rattle.std.specs.Prelude.{ℕ, ℤ, pos, ◌==◌, Bool, true, false, ◌||◌, if◌then◌else◌, int_lt, List, [], ◌∷◌, take, drop, find, Option, None, slice_get, slice_index, slice_index_or}
-use Rattle.std.specs.Int.{Width, w32, w64, int_wrapping_neg, is_negative}
+use Rattle.std.specs.Prelude.{ℕ, ℤ, pos, ◌-◌, ◌==◌, not, Bool, true, false, ◌||◌, if◌then◌else◌, int_lt, List, [], ◌∷◌, take, drop, find, Option, None, slice_get, slice_index, slice_index_or}
+use Rattle.std.specs.Int.{Width, w32, w64, int_wrapping_add, int_wrapping_neg, is_negative}
 use Rattle.std.specs.List.{list_any}
 use Rattle.std.specs.Ordering.{int_eq}
 use Rattle.jvm_base.specs.Names.{name_eq}
@@ -10,14 +10,15 @@ use Rattle.jvm_base.specs.declared.value.Value.TheVariants.{Int, Long, Ref, Null
 use Rattle.code_table.specs.declared.opcode.TheConstants as code
 use Rattle.instruction_table.specs.Rows.{is_on_ints}
 use Rattle.instruction_table.specs.Working.{doubled, group_count, swapped}
+use Rattle.instruction_table.specs.declared.row.Group.{Group}
 use Rattle.instruction_table.specs.declared.row.Row.{Row}
 use Rattle.instruction_table.specs.declared.row.Row.TheVariants as row
 use Rattle.frame_ops.specs.declared.answer.Fault.TheVariants as fault
 use Rattle.frame_ops.specs.declared.answer.Given.{Given}
 use Rattle.frame_ops.specs.declared.answer.Given.TheVariants as given
 use Rattle.frame_ops.specs.Narrowing.{as_byte, as_unit, as_short, as_int}
-use Rattle.frame_ops.specs.Numbers.{shifted, shift_count, distance}
-use Rattle.frame_ops.specs.Moves.{Move, Goes, Jumps, Raises, Throws, Asks, Stuck}
+use Rattle.frame_ops.specs.Numbers.{shifted, shift_count, distance, ordered, compares}
+use Rattle.frame_ops.specs.Moves.{Move, Goes, Jumps, Sets, Raises, Throws, Asks, Calls, Stuck}
 
 -- ---- by their kinds; the older of two is given first
 
@@ -79,7 +80,8 @@ negates _ = Stuck
 -- a shift by the low 5 bits for an int, the low 6 for a long
 abbrev pub shifts : ℕ → List Value → Move
 shifts o vs =
-    if is_on_ints o then two_ints (λ a b rest. Goes (Int (shifted o w32 a (shift_count 32 b)) ∷ rest)) vs
+    if is_on_ints o then two_ints
+    (λ a b rest. Goes (Int (shifted o w32 a (shift_count 32 b)) ∷ rest)) vs
     else long_and_int (λ a b rest. Goes (Long (shifted o w64 a (shift_count 64 b)) ∷ rest)) vs
 
 -- an int to a long, byte, char or short
@@ -94,6 +96,10 @@ abbrev pub resizes : ℕ → List Value → Move
 resizes o (Int a ∷ vs) = Goes (int_resized o a ∷ vs)
 resizes o (Long a ∷ vs) = Goes (Int (as_int a) ∷ vs)
 resizes o _ = Stuck
+
+-- two longs compared
+abbrev pub compares_longs : List Value → Move
+compares_longs vs = two_longs (λ a b rest. Goes (Int (ordered a b) ∷ rest)) vs
 
 -- ---- jumps
 
@@ -112,6 +118,31 @@ abbrev pub is_null : Value → Bool
 is_null Null = true
 is_null _ = false
 
+-- by a comparison of an int with 0
+abbrev pub branches_zero : ℕ → ℕ → List Value → Move
+branches_zero o to vs = one_int (λ a rest. branches (compares (o - code.IFEQ) a (pos 0)) to rest) vs
+
+-- of two ints
+abbrev pub branches_ints : ℕ → ℕ → List Value → Move
+branches_ints o to vs =
+    two_ints (λ a b rest. branches (compares (o - code.IF_ICMPEQ) a b) to rest) vs
+
+-- two references pass `if_acmpeq` or `if_acmpne`
+abbrev pub passes_refs : ℕ → Value → Value → Bool
+passes_refs o a b = if o == code.IF_ACMPEQ then same_reference a b else not (same_reference a b)
+
+-- by that
+abbrev pub branches_refs : ℕ → ℕ → List Value → Move
+branches_refs o to vs = two (λ a b rest. branches (passes_refs o a b) to rest) vs
+
+-- a reference passes `ifnull` or `ifnonnull`
+abbrev pub passes_null : ℕ → Value → Bool
+passes_null o a = if o == code.IFNULL then is_null a else not (is_null a)
+
+-- by that
+abbrev pub branches_null : ℕ → ℕ → List Value → Move
+branches_null o to vs = one (λ a rest. branches (passes_null o a) to rest) vs
+
 -- where a `tableswitch` leads for a key
 abbrev pub table_target : ℕ → ℤ → ℤ → List ℕ → ℤ → ℕ
 table_target other low high to key =
@@ -120,6 +151,15 @@ table_target other low high to key =
 -- where a `lookupswitch` leads for a key
 abbrev pub pair_target : ℕ → List (ℤ × ℕ) → ℤ → ℕ
 pair_target other pairs key = from other (λ p. p.1) (find (λ p. int_eq p.0 key) pairs)
+
+-- a `tableswitch`
+abbrev pub switches_table : ℕ → ℤ → ℤ → List ℕ → List Value → Move
+switches_table other low high to vs =
+    one_int (λ key rest. Jumps (table_target other low high to key) rest) vs
+
+-- a `lookupswitch`
+abbrev pub switches_pairs : ℕ → List (ℤ × ℕ) → List Value → Move
+switches_pairs other pairs vs = one_int (λ key rest. Jumps (pair_target other pairs key) rest) vs
 
 -- ---- locals
 
@@ -132,6 +172,15 @@ abbrev pub local_slots : Value → List Value
 local_slots (Long a) = Long a ∷ Int (pos 0) ∷ []
 local_slots v = v ∷ []
 
+-- an operand goes into a local
+abbrev pub stores : ℕ → List Value → Move
+stores i vs = one (λ v rest. Sets i (local_slots v) rest) vs
+
+-- an int in a local grows
+abbrev pub bumps : ℕ → ℤ → List Value → List Value → Move
+bumps i by locals vs =
+    one_int (λ a rest. Sets i (Int (int_wrapping_add w32 a by) ∷ []) vs) (local_at locals i ∷ [])
+
 -- ---- operands moved about
 
 -- the value takes two slots
@@ -139,11 +188,15 @@ abbrev pub is_wide : Value → Bool
 is_wide (Long a) = true
 is_wide _ = false
 
+-- the operands below a group
+abbrev pub under : Group → List Value → List Value
+under g vs = drop (group_count is_wide g vs) vs
+
 -- what a row that moves operands about makes of them
 abbrev pub shuffled : Row → List Value → List Value
-shuffled (row.Drops g) vs = drop (group_count is_wide g vs) vs
+shuffled (row.Drops g) vs = under g vs
 shuffled (row.Doubles top below) vs =
-    doubled (group_count is_wide top vs) (group_count is_wide below (drop (group_count is_wide top vs) vs)) vs
+    doubled (group_count is_wide top vs) (group_count is_wide below (under top vs)) vs
 shuffled row.Swaps vs = swapped vs
 shuffled _ vs = vs
 
@@ -158,6 +211,14 @@ unless_null move _ = Stuck
 -- the move, where the operand below so many others isn't null
 abbrev pub with_reference : ℕ → Move → List Value → Move
 with_reference depth move vs = from Stuck (unless_null move) (slice_get vs depth)
+
+-- what an instruction on a field asks; a put has the value above the object
+abbrev pub field_move : ℕ → List Value → Move
+field_move o vs = with_reference (if o == code.GETFIELD then 0 else 1) Asks vs
+
+-- a call; its receiver lies below so many arguments
+abbrev pub call_move : ℕ → ℕ → List Value → Move
+call_move o args vs = if o == code.INVOKESTATIC then Calls else with_reference args Calls vs
 
 -- an exception is thrown
 abbrev pub throws : List Value → Move
@@ -181,6 +242,10 @@ cast o fits Null vs = if o == code.CHECKCAST then Goes (Null ∷ vs) else Goes (
 cast o fits v vs =
     if o == code.CHECKCAST then (if fits then Goes (v ∷ vs) else Raises fault.ClassCast)
     else Goes (Int (pos (if fits then 1 else 0)) ∷ vs)
+
+-- of the newest operand
+abbrev pub casts : ℕ → Bool → List Value → Move
+casts o fits vs = one (λ v rest. cast o fits v rest) vs
 
 -- ---- what the program tells
 

@@ -28,11 +28,13 @@ move_at i given f = move_of i.op given f.locals f.stack.values
 
 -- what the step of a frame with this code answers
 abbrev pub step_answer : Code → Given → Frame → Pure
-step_answer code given f = from pure.Next (λ i. pure_answer (move_at i given f)) (placed_in code f.at)
+step_answer code given f =
+    from pure.Next (λ i. pure_answer (move_at i given f)) (placed_in code f.at)
 
 -- and the frame after it
 abbrev pub step_frame : Code → Given → Frame → Frame
-step_frame code given f = from f (λ i. frame_after (move_at i given f) i.next f) (placed_in code f.at)
+step_frame code given f =
+    from f (λ i. frame_after (move_at i given f) i.next f) (placed_in code f.at)
 
 -- ---- once it is answered
 

@@ -1,5 +1,5 @@
--- Words for writing programs. An address counts instructions here, so that the one behind `at` stands at
--- `at + 1`; the machine asks nothing else of addresses.
+-- Words for writing programs. An address counts instructions here, so that the one behind `at`
+-- stands at `at + 1`; the machine asks nothing else of addresses.
 use Rattle.std.specs.Prelude.{ℕ, ◌+◌, ℤ, true, false, List, [], ◌∷◌, ◌++◌, map, codes, length, Option, Some, None}
 use Rattle.std.specs.Option.{option_to_list}
 use Rattle.jvm_base.specs.declared.code_item.TableItem.{TableItem}
@@ -23,18 +23,23 @@ use Rattle.machine_state.specs.PreMade.{text_name}
 
 -- ---- types
 
+-- int
 abbrev pub int : Desc
 int = record { dims = 0; elem = elem.Int }
 
+-- long
 abbrev pub long : Desc
 long = record { dims = 0; elem = elem.Long }
 
+-- byte
 abbrev pub byte : Desc
 byte = record { dims = 0; elem = elem.Byte }
 
+-- char
 abbrev pub char : Desc
 char = record { dims = 0; elem = elem.Char }
 
+-- boolean
 abbrev pub boolean : Desc
 boolean = record { dims = 0; elem = elem.Boolean }
 
@@ -46,6 +51,7 @@ object name = record { dims = 0; elem = elem.Object name }
 abbrev pub array : Desc → Desc
 array d = record d { dims = d.dims + 1 }
 
+-- String
 abbrev pub text : Desc
 text = object (codes "java/lang/String")
 
@@ -55,6 +61,7 @@ signature args ret = record { args = args; ret = ret }
 
 -- ---- instructions, each with what it names
 
+-- an instruction, and what it names, if anything
 abbrev pub Line : Type 0
 Line = Op × Option Target
 
@@ -62,30 +69,39 @@ Line = Op × Option Target
 abbrev pub does : Op → Line
 does o = (o, None)
 
+-- an int constant
 abbrev pub iconst : ℤ → Line
 iconst n = does (op.Iconst n)
 
+-- loads of a local
 abbrev pub iload : ℕ → Line
 iload n = does (op.Load code.ILOAD n)
 
+-- of a long
 abbrev pub lload : ℕ → Line
 lload n = does (op.Load code.LLOAD n)
 
+-- of a reference
 abbrev pub aload : ℕ → Line
 aload n = does (op.Load code.ALOAD n)
 
+-- stores into a local
 abbrev pub istore : ℕ → Line
 istore n = does (op.Store code.ISTORE n)
 
+-- of a long
 abbrev pub lstore : ℕ → Line
 lstore n = does (op.Store code.LSTORE n)
 
+-- of a reference
 abbrev pub astore : ℕ → Line
 astore n = does (op.Store code.ASTORE n)
 
+-- the newest operand doubled
 abbrev pub dup : Line
 dup = does (op.Dup code.DUP)
 
+-- the end of a method without result
 abbrev pub return : Line
 return = does (op.Return code.RETURN)
 
@@ -101,16 +117,19 @@ literal index = (op.Ldc 0, Some (target.Constant (Ref (text_name index))))
 abbrev pub long_constant : ℤ → Line
 long_constant n = (op.Ldc2 0, Some (target.Constant (Long n)))
 
--- fields, by the class that declares them and their place
+-- a read of a static; fields go by the class that declares them and their place
 abbrev pub getstatic : Desc → ℕ → ℕ → Line
 getstatic d c place = (op.Static code.GETSTATIC 0 d, Some (target.Field c place true))
 
+-- a write of a static
 abbrev pub putstatic : Desc → ℕ → ℕ → Line
 putstatic d c place = (op.Static code.PUTSTATIC 0 d, Some (target.Field c place true))
 
+-- a read of a field
 abbrev pub getfield : Desc → ℕ → ℕ → Line
 getfield d c place = (op.Field code.GETFIELD 0 d, Some (target.Field c place false))
 
+-- a write of a field
 abbrev pub putfield : Desc → ℕ → ℕ → Line
 putfield d c place = (op.Field code.PUTFIELD 0 d, Some (target.Field c place false))
 
@@ -118,29 +137,35 @@ putfield d c place = (op.Field code.PUTFIELD 0 d, Some (target.Field c place fal
 abbrev pub invoke : ℕ → List Desc → Option Desc → ℕ → Line
 invoke o args ret m = (op.Invoke o 0 (signature args ret), Some (target.Method m))
 
--- classes by number
+-- a new object; classes go by number
 abbrev pub new : ℕ → Line
 new c = (op.New 0, Some (target.Class c))
 
+-- a cast
 abbrev pub checkcast : ℕ → Line
 checkcast c = (op.Cast code.CHECKCAST 0, Some (target.Class c))
 
+-- a test
 abbrev pub instanceof : ℕ → Line
 instanceof c = (op.Cast code.INSTANCEOF 0, Some (target.Class c))
 
+-- an array of references
 abbrev pub anewarray : ℕ → Line
 anewarray c = (op.AnewArray 0, Some (target.Class c))
 
+-- an array of arrays
 abbrev pub multianewarray : ℕ → ℕ → Line
 multianewarray c n = (op.MultiNewArray 0 n, Some (target.Class c))
 
--- arithmetic and comparisons, by the opcode
+-- arithmetic by the opcode
 abbrev pub arith : ℕ → Line
 arith o = does (op.Arith o)
 
+-- the end of a method with an int
 abbrev pub ireturn : Line
 ireturn = does (op.Return code.IRETURN)
 
+-- with a long
 abbrev pub lreturn : Line
 lreturn = does (op.Return code.LRETURN)
 
@@ -148,10 +173,11 @@ lreturn = does (op.Return code.LRETURN)
 abbrev pub goto : ℕ → Line
 goto to = does (op.Goto to)
 
--- locks
+-- a lock is entered
 abbrev pub monitorenter : Line
 monitorenter = does (op.Monitor code.MONITORENTER)
 
+-- a lock is left
 abbrev pub monitorexit : Line
 monitorexit = does (op.Monitor code.MONITOREXIT)
 
@@ -186,28 +212,40 @@ pub record Method : Type 0 where
 
 -- an entry names its class by a pool index, which is 0 where it catches all
 abbrev pub table_item : Handler → TableItem
-table_item h = record { start = h.start; end = h.end; handler = h.handler; class = length (option_to_list h.class) }
+table_item h =
+    record
+    { start = h.start; end = h.end; handler = h.handler; class = length (option_to_list h.class) }
 
 -- the class of an entry has an address of its own
 abbrev pub caught_from : ℕ → ℕ → List Handler → List (Place × Target)
 caught_from m i [] = []
-caught_from m i (h ∷ hs) = map (λ c. ((m, 65536 + i), target.Class c)) (option_to_list h.class) ++ caught_from m (i + 1) hs
+caught_from m i (h ∷ hs) =
+    map (λ c. ((m, 65536 + i), target.Class c)) (option_to_list h.class) ++ caught_from m (i + 1) hs
 
+-- its code, where it has lines
 abbrev pub body_by : Method → List Line → Body
 body_by m [] = body.Abstract
-body_by m (l ∷ ls) = body.Code (record { max_stack = 8; max_locals = m.max_locals; ops = placed_from 0 m.lines; table = map table_item m.handlers })
+body_by m (l ∷ ls) =
+    body.Code
+    (record { max_stack = 8; max_locals = m.max_locals; ops = placed_from 0 m.lines; table = map table_item m.handlers })
 
+-- the method as a program has it
 abbrev pub method_info : Method → MethodInfo
-method_info m = record { owner = m.owner; name = m.name; desc = m.desc; flags = m.flags; body = body_by m m.lines }
+method_info m =
+    record
+    { owner = m.owner; name = m.name; desc = m.desc; flags = m.flags; body = body_by m m.lines }
 
 -- what the methods name, the first of which has this number, in the order of places
 abbrev pub targets_from : ℕ → List Method → List (Place × Target)
 targets_from n [] = []
-targets_from n (m ∷ ms) = named_from n 0 m.lines ++ (caught_from n 0 m.handlers ++ targets_from (n + 1) ms)
+targets_from n (m ∷ ms) =
+    named_from n 0 m.lines ++ (caught_from n 0 m.handlers ++ targets_from (n + 1) ms)
 
 -- a method with lines and no handlers
 abbrev pub method : ℕ → List ℕ → MethodDesc → ℕ → ℕ → List Line → Method
-method owner name desc flags max_locals lines = record { owner = owner; name = name; desc = desc; flags = flags; max_locals = max_locals; lines = lines; handlers = [] }
+method owner name desc flags max_locals lines =
+    record
+    { owner = owner; name = name; desc = desc; flags = flags; max_locals = max_locals; lines = lines; handlers = [] }
 
 -- the same method with handlers
 abbrev pub with_handlers : Method → List Handler → Method
@@ -215,7 +253,8 @@ with_handlers m hs = record m { handlers = hs }
 
 -- from an address up to another, at a third, of a class and those below it
 abbrev pub catches : ℕ → ℕ → ℕ → ℕ → Handler
-catches start end handler class = record { start = start; end = end; handler = handler; class = Some class }
+catches start end handler class =
+    record { start = start; end = end; handler = handler; class = Some class }
 
 -- of any class
 abbrev pub catches_all : ℕ → ℕ → ℕ → Handler
@@ -223,12 +262,15 @@ catches_all start end handler = record { start = start; end = end; handler = han
 
 -- ---- flags (JVMS2 tables 4.4 and 4.5)
 
+-- public
 abbrev pub public : ℕ
 public = 1
 
+-- public and static
 abbrev pub public_static : ℕ
 public_static = 9
 
+-- public and synchronized
 abbrev pub public_synchronized : ℕ
 public_synchronized = 33
 
@@ -236,7 +278,9 @@ public_synchronized = 33
 
 -- a class below another
 abbrev pub class_under : ℕ → List ℕ → List FieldInfo → List ℕ → ClassInfo
-class_under above name fields methods = record { name = name; flags = 33; super_class = Some above; interfaces = []; fields = fields; methods = methods; clinit = None; array = None }
+class_under above name fields methods =
+    record
+    { name = name; flags = 33; super_class = Some above; interfaces = []; fields = fields; methods = methods; clinit = None; array = None }
 
 -- an interface
 abbrev pub interface_named : List ℕ → List ℕ → ClassInfo
@@ -248,15 +292,19 @@ with_clinit m c = record c { clinit = Some m }
 
 -- a class of arrays
 abbrev pub array_class : List ℕ → Desc → Option ℕ → ClassInfo
-array_class name d part = record { name = name; flags = 1041; super_class = Some 0; interfaces = []; fields = []; methods = []; clinit = None; array = Some (record { dims = d.dims; elem = d.elem; part = part }) }
+array_class name d part =
+    record
+    { name = name; flags = 1041; super_class = Some 0; interfaces = []; fields = []; methods = []; clinit = None; array = Some (record { dims = d.dims; elem = d.elem; part = part }) }
 
 -- an instance field of a class, at a place
 abbrev pub field : ℕ → List ℕ → Desc → ℕ → FieldInfo
-field owner name desc place = record { owner = owner; name = name; desc = desc; flags = 0; place = place; constant = None }
+field owner name desc place =
+    record { owner = owner; name = name; desc = desc; flags = 0; place = place; constant = None }
 
 -- a static one
 abbrev pub static_field : ℕ → List ℕ → Desc → ℕ → FieldInfo
-static_field owner name desc place = record { owner = owner; name = name; desc = desc; flags = 8; place = place; constant = None }
+static_field owner name desc place =
+    record { owner = owner; name = name; desc = desc; flags = 8; place = place; constant = None }
 
 -- the class of arrays of Strings
 abbrev pub strings : ClassInfo

@@ -1,5 +1,5 @@
--- The linked boot classes, with their methods by number (docs/BOOT.md). `boot_is_the_table` says that names
--- and flags are those of the table of boot classes.
+-- The linked boot classes, with their methods by number (docs/BOOT.md). `boot_is_the_table` says
+-- that names and flags are those of the table of boot classes.
 use Rattle.std.specs.Prelude.{ℕ, zero, suc, ◌+◌, ◌-◌, ◌*◌, ◌==◌, if◌then◌else◌, List, [], ◌∷◌, ◌++◌, map, codes, Some, None}
 use Rattle.jvm_base.specs.declared.desc.Desc.{Desc}
 use Rattle.jvm_base.specs.declared.desc.MethodDesc.{MethodDesc}
@@ -14,11 +14,21 @@ use Rattle.machine_runs.specs.Assembly.{Method, int, long, char, boolean, object
 
 -- ---- types
 
+-- StringBuffer
 abbrev pub buffer : Desc
 buffer = object (codes "java/lang/StringBuffer")
 
+-- Runnable
 abbrev pub runnable : Desc
 runnable = object (codes "java/lang/Runnable")
+
+-- Object
+abbrev pub any_object : Desc
+any_object = object (codes "java/lang/Object")
+
+-- Thread
+abbrev pub any_thread : Desc
+any_thread = object (codes "java/lang/Thread")
 
 -- without arguments and result
 abbrev pub plain : MethodDesc
@@ -28,8 +38,10 @@ plain = signature [] None
 
 -- a native method: which class, its name, its descriptor, and which intrinsic
 abbrev pub native_of : ℕ → ℕ → List ℕ → MethodDesc → ℕ → MethodInfo
-native_of flags owner name desc k = record { owner = owner; name = name; desc = desc; flags = flags; body = body.Intrinsic k }
+native_of flags owner name desc k =
+    record { owner = owner; name = name; desc = desc; flags = flags; body = body.Intrinsic k }
 
+-- an instance method
 abbrev pub native : ℕ → List ℕ → MethodDesc → ℕ → MethodInfo
 native owner name desc k = native_of 257 owner name desc k
 
@@ -37,12 +49,15 @@ native owner name desc k = native_of 257 owner name desc k
 abbrev pub native_static : ℕ → List ℕ → MethodDesc → ℕ → MethodInfo
 native_static owner name desc k = native_of 265 owner name desc k
 
+-- the name of constructors
 abbrev pub init_name : List ℕ
 init_name = codes "<init>"
 
 -- a constructor that calls the one of a number
 abbrev pub init_calling : ℕ → ℕ → Method
-init_calling owner above = method owner init_name plain public 1 (aload 0 ∷ invoke code.INVOKESPECIAL [] None above ∷ return ∷ [])
+init_calling owner above =
+    method owner init_name plain public 1
+    (aload 0 ∷ invoke code.INVOKESPECIAL [] None above ∷ return ∷ [])
 
 -- one that hands a text up
 abbrev pub text_init_calling : ℕ → ℕ → Method
@@ -57,9 +72,12 @@ init_storing owner d =
     (aload 0 ∷ invoke code.INVOKESPECIAL [] None 0 ∷ aload 0 ∷ aload 1 ∷ putfield d owner 0 ∷ return ∷ [])
 
 -- 0 to 30: Object, String, StringBuffer, PrintStream and Runnable
+
+-- 0
 abbrev pub object_init : Method
 object_init = method 0 init_name plain public 1 (return ∷ [])
 
+-- the native ones, and `run` of Runnable
 abbrev pub native_methods : List MethodInfo
 native_methods =
     native_of 273 0 (codes "wait") plain 0
@@ -67,7 +85,7 @@ native_methods =
     ∷ native_of 273 0 (codes "notifyAll") plain 2
     ∷ native 2 (codes "length") (signature [] (Some int)) 3
     ∷ native 2 (codes "charAt") (signature (int ∷ []) (Some char)) 4
-    ∷ native 2 (codes "equals") (signature (object (codes "java/lang/Object") ∷ []) (Some boolean)) 5
+    ∷ native 2 (codes "equals") (signature (any_object ∷ []) (Some boolean)) 5
     ∷ native 2 (codes "concat") (signature (text ∷ []) (Some text)) 6
     ∷ native_static 2 (codes "valueOf") (signature (int ∷ []) (Some text)) 7
     ∷ native_static 2 (codes "valueOf") (signature (long ∷ []) (Some text)) 8
@@ -95,11 +113,14 @@ native_methods =
     ∷ []
 
 -- 31 to 33: the constructors and `run` of Thread
+
+-- `run` calls that of the target, if there is one
 abbrev pub thread_run : Method
 thread_run =
     method 7 (codes "run") plain public 1
     (aload 0 ∷ getfield runnable 7 0 ∷ does (op.IfNull code.IFNULL 6) ∷ aload 0 ∷ getfield runnable 7 0 ∷ invoke code.INVOKEINTERFACE [] None 30 ∷ return ∷ [])
 
+-- 31 to 33
 abbrev pub thread_code : List Method
 thread_code = init_calling 7 0 ∷ init_storing 7 runnable ∷ thread_run ∷ []
 
@@ -108,7 +129,7 @@ abbrev pub thread_natives : List MethodInfo
 thread_natives =
     native 7 (codes "start") plain 29
     ∷ native 7 (codes "join") plain 30
-    ∷ native_static 7 (codes "currentThread") (signature [] (Some (object (codes "java/lang/Thread")))) 31
+    ∷ native_static 7 (codes "currentThread") (signature [] (Some any_thread)) 31
     ∷ native_static 7 (codes "sleep") (signature (long ∷ []) None) 32
     ∷ native_static 7 (codes "yield") plain 33
     ∷ []
@@ -117,12 +138,15 @@ thread_natives =
 abbrev pub throwable_code : List Method
 throwable_code =
     init_calling 8 0 ∷ init_storing 8 text
-    ∷ method 8 (codes "getMessage") (signature [] (Some text)) public 1 (aload 0 ∷ getfield text 8 0 ∷ does (op.Return code.ARETURN) ∷ [])
+    ∷ method 8 (codes "getMessage") (signature [] (Some text)) public 1
+    (aload 0 ∷ getfield text 8 0 ∷ does (op.Return code.ARETURN) ∷ [])
     ∷ []
 
 -- the superclasses of 9 to 33
 abbrev pub exception_supers : List ℕ
-exception_supers = 8 ∷ 9 ∷ 8 ∷ 10 ∷ 10 ∷ 10 ∷ 14 ∷ 14 ∷ 10 ∷ 10 ∷ 10 ∷ 10 ∷ 10 ∷ 21 ∷ 10 ∷ 9 ∷ 11 ∷ 25 ∷ 25 ∷ 25 ∷ 28 ∷ 28 ∷ 11 ∷ 31 ∷ 10 ∷ []
+exception_supers =
+    8 ∷ 9 ∷ 8 ∷ 10 ∷ 10 ∷ 10 ∷ 14 ∷ 14 ∷ 10 ∷ 10 ∷ 10 ∷ 10 ∷ 10 ∷ 21 ∷ 10 ∷ 9 ∷ 11 ∷ 25 ∷ 25 ∷ 25
+    ∷ 28 ∷ 28 ∷ 11 ∷ 31 ∷ 10 ∷ []
 
 -- the first constructor of Throwable or a class below it; the one that is given a text comes next
 abbrev pub first_init : ℕ → ℕ
@@ -133,18 +157,23 @@ first_init (suc n) = 42 + 2 * n
 abbrev pub exception_code : ℕ → List ℕ → List Method
 exception_code c [] = []
 exception_code c (above ∷ more) =
-    init_calling c (first_init (above - 8)) ∷ text_init_calling c (first_init (above - 8) + 1) ∷ exception_code (c + 1) more
+    init_calling c (first_init (above - 8)) ∷ text_init_calling c (first_init (above - 8) + 1)
+    ∷ exception_code (c + 1) more
 
--- all 92
+-- 39 to 91
 abbrev pub late_code : List Method
 late_code = throwable_code ++ exception_code 9 exception_supers
 
+-- all methods in order
 abbrev pub boot_methods : List MethodInfo
 boot_methods =
-    method_info object_init ∷ (native_methods ++ (map method_info thread_code ++ (thread_natives ++ map method_info late_code)))
+    method_info object_init
+    ∷ (native_methods ++ (map method_info thread_code ++ (thread_natives ++ map method_info late_code)))
 
+-- what their code names
 abbrev pub boot_targets : List (Place × Target)
-boot_targets = targets_from 0 (object_init ∷ []) ++ (targets_from 31 thread_code ++ targets_from 39 late_code)
+boot_targets =
+    targets_from 0 (object_init ∷ []) ++ (targets_from 31 thread_code ++ targets_from 39 late_code)
 
 -- ---- classes
 
@@ -155,7 +184,9 @@ numbers_from n (suc k) = n ∷ numbers_from (n + 1) k
 
 -- a class below Object
 abbrev pub boot_class : List ℕ → ℕ → List ℕ → ClassInfo
-boot_class name flags methods = record { name = name; flags = flags; super_class = Some 0; interfaces = []; fields = []; methods = methods; clinit = None; array = None }
+boot_class name flags methods =
+    record
+    { name = name; flags = flags; super_class = Some 0; interfaces = []; fields = []; methods = methods; clinit = None; array = None }
 
 -- the names of 9 to 33
 abbrev pub exception_names : List (List ℕ)
@@ -187,23 +218,28 @@ exception_names =
     ∷ codes "java/lang/UnsupportedOperationException"
     ∷ []
 
--- the classes with these superclasses and names, where the first one's constructor has this number; class
--- 31 alone is abstract
+-- the classes with these superclasses and names, where the first one's constructor has this number;
+-- class 31 alone is abstract
 abbrev pub exception_classes : ℕ → List ℕ → List (List ℕ) → List ClassInfo
 exception_classes m (above ∷ supers) (name ∷ names) =
-    record (boot_class name (if m == 86 then 1057 else 33) (m ∷ (m + 1) ∷ [])) { super_class = Some above }
+    record (boot_class name (if m == 86 then 1057 else 33) (m ∷ (m + 1) ∷ []))
+    { super_class = Some above }
     ∷ exception_classes (m + 2) supers names
 exception_classes m _ _ = []
 
+-- all classes in order
 abbrev pub boot_classes : List ClassInfo
 boot_classes =
     record (boot_class (codes "java/lang/Object") 33 (numbers_from 0 4)) { super_class = None }
     ∷ boot_class (codes "java/lang/Class") 49 []
     ∷ boot_class (codes "java/lang/String") 49 (numbers_from 4 6)
     ∷ boot_class (codes "java/lang/StringBuffer") 49 (numbers_from 10 9)
-    ∷ record (boot_class (codes "java/lang/System") 49 []) { fields = record { owner = 4; name = codes "out"; desc = object (codes "java/io/PrintStream"); flags = 25; place = 0; constant = None } ∷ [] }
+    ∷ record (boot_class (codes "java/lang/System") 49 [])
+    { fields = record { owner = 4; name = codes "out"; desc = object (codes "java/io/PrintStream"); flags = 25; place = 0; constant = None } ∷ [] }
     ∷ boot_class (codes "java/io/PrintStream") 33 (numbers_from 19 11)
     ∷ boot_class (codes "java/lang/Runnable") 1537 (30 ∷ [])
-    ∷ record (boot_class (codes "java/lang/Thread") 33 (numbers_from 31 8)) { interfaces = 6 ∷ []; fields = record (field 7 (codes "target") runnable 0) { flags = 2 } ∷ [] }
-    ∷ record (boot_class (codes "java/lang/Throwable") 33 (numbers_from 39 3)) { fields = record (field 8 (codes "message") text 0) { flags = 2 } ∷ [] }
+    ∷ record (boot_class (codes "java/lang/Thread") 33 (numbers_from 31 8))
+    { interfaces = 6 ∷ []; fields = record (field 7 (codes "target") runnable 0) { flags = 2 } ∷ [] }
+    ∷ record (boot_class (codes "java/lang/Throwable") 33 (numbers_from 39 3))
+    { fields = record (field 8 (codes "message") text 0) { flags = 2 } ∷ [] }
     ∷ exception_classes 42 exception_supers exception_names

@@ -14,7 +14,8 @@ name_at c = from [] (λ k. k.name) (slice_get boot_classes c)
 
 -- the name, flags, superclass, interfaces and fields of a class, as the program has them
 abbrev pub class_head : ClassInfo → List ℕ × ℕ × Option (List ℕ) × List (List ℕ) × List (ℕ × List ℕ)
-class_head k = (k.name, k.flags, option_and_then (λ c. Some (name_at c)) k.super_class, map name_at k.interfaces, map (λ f. (f.flags, f.name)) k.fields)
+class_head k =
+    (k.name, k.flags, option_and_then (λ c. Some (name_at c)) k.super_class, map name_at k.interfaces, map (λ f. (f.flags, f.name)) k.fields)
 
 -- and as the table has them
 abbrev pub row_head : Row → List ℕ × ℕ × Option (List ℕ) × List (List ℕ) × List (ℕ × List ℕ)
@@ -24,6 +25,7 @@ row_head r = (r.name, r.flags, r.super_class, r.interfaces, map (λ f. (f.flags,
 abbrev pub method_head : MethodInfo → ℕ × List ℕ
 method_head m = (m.flags, m.name)
 
+-- and as the table has them
 abbrev pub row_methods : Row → List (ℕ × List ℕ)
 row_methods r = map (λ m. row_method m) r.methods
   where

@@ -18,7 +18,8 @@ linked classes methods literals main = record {
 
 -- `main` of the class of a number, with so many locals
 abbrev pub main_method : ℕ → ℕ → List Line → Method
-main_method owner max_locals lines = method owner (codes "main") (signature (array text ∷ []) None) public_static max_locals lines
+main_method owner max_locals lines =
+    method owner (codes "main") (signature (array text ∷ []) None) public_static max_locals lines
 
 -- `System.out`
 abbrev pub out : Line
@@ -28,15 +29,19 @@ out = getstatic (object (codes "java/io/PrintStream")) 4 0
 abbrev pub println_int : Line
 println_int = invoke code.INVOKEVIRTUAL (int ∷ []) None 24
 
+-- of a long
 abbrev pub println_long : Line
 println_long = invoke code.INVOKEVIRTUAL (long ∷ []) None 25
 
+-- of a char
 abbrev pub println_char : Line
 println_char = invoke code.INVOKEVIRTUAL (char ∷ []) None 26
 
+-- of a boolean
 abbrev pub println_boolean : Line
 println_boolean = invoke code.INVOKEVIRTUAL (boolean ∷ []) None 27
 
+-- of a String
 abbrev pub println_text : Line
 println_text = invoke code.INVOKEVIRTUAL (text ∷ []) None 28
 

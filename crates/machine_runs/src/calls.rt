@@ -10,11 +10,11 @@ ghost use Rattle.machine_runs.specs.Programs.Calls.{calls, throwing};
 /// two locals.
 #[tactic(auto, unfolding(crate::specs::Driving::outcome))]
 pub fn calls_run()
-    ensures { Prints calls (codes "120" ∷ codes "49" ∷ codes "50" ∷ codes "8" ∷ codes "-5" ∷ []) }
+    ensures { Prints calls (codes "120 49 50 8 -5") }
 {}
 
 /// An exception goes to the first handler that takes it, through frames without one.
 #[tactic(auto, unfolding(crate::specs::Driving::outcome))]
 pub fn throwing_runs()
-    ensures { ComesTo throwing (codes "5" ∷ codes "2" ∷ codes "0" ∷ codes "-1" ∷ codes "x" ∷ codes "1" ∷ []) AllEnded ((0, class_cast) ∷ []) }
+    ensures { ComesTo throwing (codes "5 2 0 -1 x 1") AllEnded ((0, class_cast) ∷ []) }
 {}

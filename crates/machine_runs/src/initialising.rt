@@ -9,11 +9,11 @@ ghost use Rattle.machine_runs.specs.Programs.Initialising.{statics, failing};
 /// A class is initialised at its first use, after its superclass; a constant is no use.
 #[tactic(auto, unfolding(crate::specs::Driving::outcome))]
 pub fn statics_run()
-    ensures { Prints statics (codes "7" ∷ codes "Base" ∷ codes "Derived" ∷ codes "10" ∷ codes "3" ∷ codes "4" ∷ []) }
+    ensures { Prints statics (codes "7 Base Derived 10 3 4") }
 {}
 
 /// An initialisation that failed isn't tried again; who doesn't own a lock can't notify.
 #[tactic(auto, unfolding(crate::specs::Driving::outcome))]
 pub fn failing_runs()
-    ensures { ComesTo failing (codes "1" ∷ codes "2" ∷ []) AllEnded ((0, monitor_state) ∷ []) }
+    ensures { ComesTo failing (codes "1 2") AllEnded ((0, monitor_state) ∷ []) }
 {}

@@ -9,11 +9,11 @@ ghost use Rattle.machine_runs.specs.Programs.Objects.{fields, arrays};
 /// Fields hold what was put, and null has none.
 #[tactic(auto, unfolding(crate::specs::Driving::outcome))]
 pub fn fields_run()
-    ensures { ComesTo fields (codes "7" ∷ []) AllEnded ((0, null_pointer) ∷ []) }
+    ensures { ComesTo fields (codes "7") AllEnded ((0, null_pointer) ∷ []) }
 {}
 
 /// Elements hold what was stored; an array keeps its element type and its length.
 #[tactic(auto, unfolding(crate::specs::Driving::outcome))]
 pub fn arrays_run()
-    ensures { ComesTo arrays (codes "15" ∷ codes "12" ∷ codes "1" ∷ []) AllEnded ((0, array_index) ∷ []) }
+    ensures { ComesTo arrays (codes "15 12 1") AllEnded ((0, array_index) ∷ []) }
 {}

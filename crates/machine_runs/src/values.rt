@@ -9,11 +9,11 @@ ghost use Rattle.machine_runs.specs.Programs.Values.{numbers, texts};
 /// Numbers wrap, are cut and are shifted; switches lead to their cases.
 #[tactic(auto, unfolding(crate::specs::Driving::outcome))]
 pub fn numbers_run()
-    ensures { Prints numbers (codes "-2147483648" ∷ codes "0" ∷ codes "-4" ∷ codes "15" ∷ codes "1099511627776" ∷ codes "0" ∷ codes "-56" ∷ codes "A" ∷ codes "-25536" ∷ codes "6" ∷ codes "1" ∷ codes "2147483647" ∷ []) }
+    ensures { Prints numbers (codes "-2147483648 0 -4 15 1099511627776 0 -56 A -25536 6 1 2147483647") }
 {}
 
 /// A buffer gathers texts; Strings are compared by their text.
 #[tactic(auto, unfolding(crate::specs::Driving::outcome))]
 pub fn texts_run()
-    ensures { ComesTo texts (codes "n=7ctruenull" ∷ codes "b" ∷ codes "true" ∷ codes "false" ∷ codes "2" ∷ []) AllEnded ((0, string_index) ∷ []) }
+    ensures { ComesTo texts (codes "n=7ctruenull b true false 2") AllEnded ((0, string_index) ∷ []) }
 {}

@@ -2,6 +2,7 @@
 use Rattle.std.proofs.Common.{◌≡◌, ◌≢◌, ◌⊎◌, inl, inr, ℕ, ◌<◌, Bool, true, false, cond, not, ◌&&◌, ◌||◌, ◌==◌, if◌then◌else◌, List, [], ◌∷◌, ◌++◌, Option, Some, None, refl, sym, ap, ◌∙◌, subst}
 use Rattle.std.specs.Prelude.{slice_get}
 use Rattle.jvm_base.specs.declared.name.Name.{Name}
+use Rattle.jvm_base.proofs.NameLaws.{exact_names}
 use Rattle.machine_state.specs.declared.state.Mode.{Mode}
 use Rattle.machine_state.specs.declared.state.Mode.TheVariants.{Entry, Running, Raising, Waiting, Ended}
 use Rattle.machine_state.specs.declared.state.MonitorState.{MonitorState}
@@ -10,20 +11,23 @@ use Rattle.machine_state.specs.declared.state.Waiter.{Waiter}
 use Rattle.jvm_base.specs.Maps.{put}
 use Rattle.machine_state.proofs.MapLaws.{find-put, find-where_key}
 use Rattle.jvm_base.specs.Names.{name_cmp, name_eq}
+use Rattle.hierarchy.proofs.Tests.{or_assoc}
 use Rattle.hierarchy.specs.Walks.{has}
 use Rattle.machine_state.specs.State.{Owners, owner_at, waiters_of}
 use Rattle.machine_state.specs.Changes.{waiter, without_waiter, without_waiters, without_owner}
 use Rattle.machine_state.specs.Events.{LockEvent, Enters, Leaves, Waits, Notifies, NotifiesAll, Retakes}
 use Rattle.machine_state.specs.Locks.{owned}
 use Rattle.machine_state.specs.LegalLocks.{Stage, Awake, Asleep, Woken, Standing, wakened, at_lock, lock_of, OthersFree}
-use Rattle.machine_state.proofs.NameTests.{names_total, exact_names, name_itself, same_or, test_true, test_false, some_is, not_both}
+use Rattle.machine_state.proofs.NameTests.{names_total, name_itself, same_or, test_true, test_false, some_is, not_both}
 use Rattle.machine_state.proofs.FrameLaws.{apart_or, eq_turned, put_apart, freed_apart}
 use Rattle.machine_state.proofs.ModeActs.{NotWaiting}
 
+-- how often a thread owns a lock, by its entry
 abbrev pub count_of : ℕ → Option MonitorState → ℕ
 count_of u None = 0
 count_of u (Some o) = if o.owner == u then o.count else 0
 
+-- the stage of a sleeper
 abbrev pub is_asleep : Stage → Bool
 is_asleep Asleep = true
 is_asleep _ = false
@@ -33,19 +37,23 @@ pub record WaitsAt (l : Name) (k : ℕ) (n : Name) (s : Standing) : Type 0 where
   pub here : name_eq l n ≡ true → (s.stage ≢ Awake) × ((s.kept ≡ k) × (0 < k))
   pub there : name_eq l n ≡ false → s.stage ≡ Awake
 
+-- a mode fits how its thread stands to a lock: a thread that waits there sleeps or woke, any other is awake
 abbrev pub ModeFits : Name → Mode → Standing → Type 0
 ModeFits n (Waiting l k) s = WaitsAt l k n s
 ModeFits n mode s = s.stage ≡ Awake
 
+-- the table of locks and the waiting list are what the events tell
 pub record LocksAgree (owners : Owners) (waiting : List Waiter) (st : ℕ → Name → Standing) : Type 0 where
   pub owns : (n : Name) (u : ℕ) → (st u n).held ≡ count_of u (owner_at owners n)
   pub counts : (n : Name) (o : MonitorState) → owner_at owners n ≡ Some o → 0 < o.count
   pub sleeps : (n : Name) (u : ℕ) → has (waiters_of n waiting) u ≡ is_asleep (st u n).stage
 
+-- so are the modes; nobody waits who is not there
 pub record ModesAgree (threads : List ThreadState) (st : ℕ → Name → Standing) : Type 0 where
   pub modes : (u : ℕ) (th : ThreadState) → slice_get threads u ≡ Some th → (n : Name) → ModeFits n th.mode (st u n)
   pub absent : (u : ℕ) → slice_get threads u ≡ None → (n : Name) → (st u n).stage ≡ Awake
 
+-- a thread that doesn't wait is awake
 pub fit_awake : (n : Name) (mode : Mode) (s : Standing) → NotWaiting mode → ModeFits n mode s → s.stage ≡ Awake
 fit_awake n (Waiting l k) s w f = absurd w
 fit_awake n Entry s w f = f
@@ -53,6 +61,7 @@ fit_awake n Running s w f = f
 fit_awake n (Raising e) s w f = f
 fit_awake n Ended s w f = f
 
+-- and the other way round
 pub awake_fits : (n : Name) (mode : Mode) (s : Standing) → NotWaiting mode → s.stage ≡ Awake → ModeFits n mode s
 awake_fits n (Waiting l k) s w f = absurd w
 awake_fits n Entry s w f = f
@@ -60,17 +69,20 @@ awake_fits n Running s w f = f
 awake_fits n (Raising e) s w f = f
 awake_fits n Ended s w f = f
 
+-- who is awake stays so
 wakened_awake : (g : Stage) → g ≡ Awake → wakened g ≡ Awake
 wakened_awake Awake e = refl
 wakened_awake Asleep e = absurd cc
 wakened_awake Woken e = absurd cc
 
+-- nobody falls awake by being wakened
 wakened_not : (g : Stage) → g ≢ Awake → wakened g ≢ Awake
 wakened_not Awake ne e = ne refl
 wakened_not Asleep ne e = absurd cc
 wakened_not Woken ne e = absurd cc
 
-wakened_up : (g : Stage) → is_asleep (wakened g) ≡ false
+-- who is wakened sleeps no longer
+pub wakened_up : (g : Stage) → is_asleep (wakened g) ≡ false
 wakened_up Awake = refl
 wakened_up Asleep = refl
 wakened_up Woken = refl
@@ -85,6 +97,7 @@ wakened_fits n Ended s f = wakened_awake s.stage f
 
 -- ---- standings after an event of thread t
 
+-- how threads stand after an event of a thread
 abbrev pub after_lock : (ℕ → Name → Standing) → ℕ → LockEvent → ℕ → Name → Standing
 after_lock st t k u n = if name_eq (lock_of k) n then at_lock (t == u) u k (st u n) else st u n
 
@@ -92,6 +105,7 @@ after_lock st t k u n = if name_eq (lock_of k) n then at_lock (t == u) u k (st u
 pub lock_apart : (st : ℕ → Name → Standing) (t : ℕ) (k : LockEvent) (u : ℕ) (n : Name) → name_eq (lock_of k) n ≡ false → after_lock st t k u n ≡ st u n
 lock_apart st t k u n e = ap (λ b. if b then at_lock (t == u) u k (st u n) else st u n) e
 
+-- to the lock of the event
 pub lock_at : (st : ℕ → Name → Standing) (t : ℕ) (k : LockEvent) (u : ℕ) → after_lock st t k u (lock_of k) ≡ at_lock (t == u) u k (st u (lock_of k))
 lock_at st t k u = ap (λ b. if b then at_lock (t == u) u k (st u (lock_of k)) else st u (lock_of k)) (name_itself (lock_of k))
 
@@ -99,6 +113,7 @@ lock_at st t k u = ap (λ b. if b then at_lock (t == u) u k (st u (lock_of k)) e
 abbrev pub Passive : LockEvent → Type 0
 Passive k = (u : ℕ) (n : Name) (s : Standing) (mode : Mode) → ModeFits n mode s → ModeFits n mode (at_lock false u k s)
 
+-- no event but its own thread's changes how a thread fits
 pub passive : (k : LockEvent) → Passive k
 passive (Enters n) u q s mode f = f
 passive (Leaves n) u q s mode f = f
@@ -112,6 +127,7 @@ passive (Notifies n (Some x)) u q s mode f = by_test (x == u)
     by_test true = wakened_fits q mode s f
     by_test false = f
 
+-- so other modes fit on
 pub others_fit : (st : ℕ → Name → Standing) (t : ℕ) (k : LockEvent) (u : ℕ) (n : Name) (mode : Mode) → u ≢ t → ModeFits n mode (st u n) → ModeFits n mode (after_lock st t k u n)
 others_fit st t k u n mode ne f = by_name (name_eq (lock_of k) n)
   where
@@ -121,9 +137,11 @@ others_fit st t k u n mode ne f = by_name (name_eq (lock_of k) n)
 
 -- ---- owners
 
+-- the owner of a lock after one was entered
 owner_put : (os : Owners) (n q : Name) (o : MonitorState) → owner_at (put name_cmp n o os) q ≡ cond (name_eq q n) (Some o) (owner_at os q)
 owner_put os n q o = find-put name_cmp names_total q n o os
 
+-- nobody owns a lock that was left
 owner_freed : (os : Owners) (n : Name) → owner_at (without_owner n os) n ≡ None
 owner_freed os n = find-where_key name_cmp (λ x. not (name_eq n x)) n (λ x h. ap (λ (y : Name). not (name_eq n y)) (sym (exact_names n x h))) os ∙ ap (λ b. cond (not b) (owner_at os n) None) (name_itself n)
 
@@ -159,6 +177,7 @@ owns_freed os ws st t k a all n u = by_name (apart_or (lock_of k) n)
     by_name (inl e) = subst (λ (x : Name). (after_lock st t k u x).held ≡ count_of u (owner_at (without_owner (lock_of k) os) x)) e here
     by_name (inr e) = ap (λ (s : Standing). s.held) (lock_apart st t k u n e) ∙ a.owns n u ∙ sym (ap (count_of u) (freed_apart os (lock_of k) n (eq_turned n (lock_of k) ∙ e)))
 
+-- counts are above 0 after a lock was entered
 pub counts_put : (os : Owners) (n : Name) (t j : ℕ) → 0 < j → ((q : Name) (o : MonitorState) → owner_at os q ≡ Some o → 0 < o.count) → (q : Name) (o : MonitorState) → owner_at (put name_cmp n (owned t j) os) q ≡ Some o → 0 < o.count
 counts_put os n t j p a q o e = by_test (name_eq q n) (sym (owner_put os n q (owned t j)) ∙ e)
   where
@@ -166,6 +185,7 @@ counts_put os n t j p a q o e = by_test (name_eq q n) (sym (owner_put os n q (ow
     by_test true e = subst (λ (x : MonitorState). 0 < x.count) (some_is e) p
     by_test false e = a q o e
 
+-- and after one was left
 pub counts_freed : (os : Owners) (n : Name) → ((q : Name) (o : MonitorState) → owner_at os q ≡ Some o → 0 < o.count) → (q : Name) (o : MonitorState) → owner_at (without_owner n os) q ≡ Some o → 0 < o.count
 counts_freed os n a q o e = by_name (apart_or n q)
   where
@@ -175,12 +195,15 @@ counts_freed os n a q o e = by_name (apart_or n q)
 
 -- ---- what is known of an owner
 
+-- an owner holds the lock as often as its entry says
 pub held_by : (os : Owners) (ws : List Waiter) (st : ℕ → Name → Standing) (t : ℕ) (n : Name) (o : MonitorState) → LocksAgree os ws st → owner_at os n ≡ Some o → o.owner ≡ t → (st t n).held ≡ o.count
 held_by os ws st t n o a e f = a.owns n t ∙ ap (count_of t) e ∙ ap (λ b. if b then o.count else 0) (test_true o.owner t f)
 
+-- no other thread holds it
 pub others_free : (os : Owners) (ws : List Waiter) (st : ℕ → Name → Standing) (t : ℕ) (n : Name) (o : MonitorState) → LocksAgree os ws st → owner_at os n ≡ Some o → o.owner ≡ t → OthersFree st t n
 others_free os ws st t n o a e f u ne = a.owns n u ∙ ap (count_of u) e ∙ ap (λ b. if b then o.count else 0) (test_false o.owner u (λ h. ne (sym h ∙ f)))
 
+-- nobody holds a lock without an owner
 pub all_free : (os : Owners) (ws : List Waiter) (st : ℕ → Name → Standing) (n : Name) → LocksAgree os ws st → owner_at os n ≡ None → (u : ℕ) → (st u n).held ≡ 0
 all_free os ws st n a e u = a.owns n u ∙ ap (count_of u) e
 
@@ -207,11 +230,9 @@ sleeps_changed os ws vs st t k a r s n u = by_name (apart_or (lock_of k) n)
     by_name (inl e) = subst (λ (x : Name). has (waiters_of x vs) u ≡ is_asleep (after_lock st t k u x).stage) e (s u ∙ sym (ap (λ (x : Standing). is_asleep x.stage) (lock_at st t k u)))
     by_name (inr e) = ap (λ (x : List ℕ). has x u) (r n e) ∙ a.sleeps n u ∙ sym (ap (λ (x : Standing). is_asleep x.stage) (lock_apart st t k u n e))
 
--- the waiters of the lock itself
-or_assoc : (a b c : Bool) → (a || (b || c)) ≡ ((a || b) || c)
-or_assoc true b c = refl
-or_assoc false b c = refl
+-- ---- the waiters of the lock itself
 
+-- the sleepers on a lock after one fell asleep
 pub added_waiter : (ws : List Waiter) (n : Name) (t u : ℕ) → has (waiters_of n (ws ++ waiter n t ∷ [])) u ≡ (has (waiters_of n ws) u || t == u)
 added_waiter [] n t u = ap (λ b. has (if b then t ∷ [] else []) u) (name_itself n) ∙ by_test (t == u)
   where
@@ -225,6 +246,7 @@ added_waiter (w ∷ ws) n t u = by_test (name_eq w.lock n) (added_waiter ws n t 
     by_test true e = ap (λ b. w.thread == u || b) e ∙ or_assoc (w.thread == u) (has (waiters_of n ws) u) (t == u)
     by_test false e = e
 
+-- and after one was woken
 pub taken_waiter : (ws : List Waiter) (n : Name) (p u : ℕ) → has (waiters_of n (without_waiter n p ws)) u ≡ (has (waiters_of n ws) u && not (p == u))
 taken_waiter [] n p u = refl
 taken_waiter (w ∷ ws) n p u = by_test (name_eq w.lock n) (same_or w.thread p) (taken_waiter ws n p u) refl
@@ -257,6 +279,7 @@ taken_waiter (w ∷ ws) n p u = by_test (name_eq w.lock n) (same_or w.thread p) 
         apart ne (inl e) t = absurd (let f : (w.thread == u) ≡ false = test_false w.thread u (λ x. ne (x ∙ sym e)) in cc)
         apart ne (inr n) t = test_false p u n
 
+-- nobody sleeps on a lock after all were woken
 pub no_waiters : (ws : List Waiter) (n : Name) → waiters_of n (without_waiters n ws) ≡ []
 no_waiters [] n = refl
 no_waiters (w ∷ ws) n = by_test (name_eq w.lock n) refl (no_waiters ws n)

@@ -4,6 +4,7 @@ use Rattle.std.specs.Prelude.{slice_get, slice_set}
 use Rattle.std.specs.Cmp.{eq_by_cmp_equiv}
 use Rattle.jvm_base.specs.declared.name.Name.{Name}
 use Rattle.jvm_base.specs.declared.value.ObjectBody.{ObjectBody}
+use Rattle.jvm_base.proofs.NameLaws.{exact_names, name_eq-true}
 use Rattle.machine_state.specs.declared.state.Choice.{Choice}
 use Rattle.machine_state.specs.declared.state.ThreadState.{ThreadState}
 use Rattle.machine_state.specs.declared.state.Waiter.{Waiter}
@@ -19,7 +20,7 @@ use Rattle.machine_state.specs.Deeds.{Deed}
 use Rattle.machine_state.specs.Step.{Taken, after, moved_on, taken_by, step, step_of}
 use Rattle.machine_state.specs.Laws.Locality.{IsAt, AreAt}
 use Rattle.machine_state.specs.Laws.Framing.{Elsewhere, OneHome, OneHomeLaw, OtherThreadsLaw}
-use Rattle.machine_state.proofs.NameTests.{names_total, exact_names, one_name, some_is, set_other}
+use Rattle.machine_state.proofs.NameTests.{names_total, some_is, set_other}
 use Rattle.machine_state.proofs.Sources.{Source, idle, asks, wakes, of_taken}
 use Rattle.machine_state.proofs.LocalLaws.{local_served, local_retakes}
 
@@ -28,17 +29,20 @@ pub apart_or : (a b : Name) → (a ≡ b) ⊎ (name_eq a b ≡ false)
 apart_or a b = by_test (name_eq a b) refl
   where
     by_test : (t : Bool) → name_eq a b ≡ t → (a ≡ b) ⊎ (name_eq a b ≡ false)
-    by_test true e = inl (one_name a b e)
+    by_test true e = inl (name_eq-true a b e)
     by_test false e = inr e
 
+-- names may be compared either way
 pub eq_turned : (a b : Name) → name_eq a b ≡ name_eq b a
 eq_turned a b = (eq_by_cmp_equiv names_total).symm a b
 
 -- ---- maps and lists at another name
 
+-- another entry stays where one is put
 pub put_apart : {X : Type 0} (es : List (Name × X)) (n q : Name) (x : X) → name_eq q n ≡ false → find name_cmp q (put name_cmp n x es) ≡ find name_cmp q es
 put_apart es n q x e = find-put name_cmp names_total q n x es ∙ ap (λ t. cond t (Some x) (find name_cmp q es)) e
 
+-- another body stays where one is altered
 pub altered_apart : (heap : Heap) (n q : Name) (f : ObjectBody → ObjectBody) → name_eq q n ≡ false → body_at (altered heap n f) q ≡ body_at heap q
 altered_apart heap n q f e = by_body (body_at heap n) refl
   where
@@ -46,9 +50,11 @@ altered_apart heap n q f e = by_body (body_at heap n) refl
     by_body None h = refl
     by_body (Some b) h = find-replace n q (f b) b heap h ∙ ap (λ t. cond t (Some (f b)) (body_at heap q)) e
 
+-- other locks keep their owners
 pub freed_apart : (os : Owners) (n q : Name) → name_eq q n ≡ false → owner_at (without_owner n os) q ≡ owner_at os q
 freed_apart os n q e = find-where_key name_cmp (λ x. not (name_eq n x)) q (λ x h. ap (λ (y : Name). not (name_eq n y)) (sym (exact_names q x h))) os ∙ ap (λ t. cond (not t) (owner_at os q) None) (eq_turned n q ∙ e)
 
+-- other locks keep their sleepers where a thread falls asleep
 pub sleeps_apart : (ws : List Waiter) (n q : Name) (t : ℕ) → name_eq n q ≡ false → waiters_of q (ws ++ waiter n t ∷ []) ≡ waiters_of q ws
 sleeps_apart [] n q t e = ap (λ x. if x then t ∷ [] else []) e
 sleeps_apart (w ∷ ws) n q t e = ap (λ x. if name_eq w.lock q then w.thread ∷ x else x) (sleeps_apart ws n q t e)
@@ -57,22 +63,25 @@ sleeps_apart (w ∷ ws) n q t e = ap (λ x. if name_eq w.lock q then w.thread �
 off : (w : Waiter) (ws rest : List Waiter) (n q : Name) (b : Bool) → name_eq n q ≡ false → waiters_of q rest ≡ waiters_of q ws → (a : Bool) → name_eq w.lock n ≡ a → waiters_of q (if not (a && b) then w ∷ rest else rest) ≡ waiters_of q (w ∷ ws)
 off w ws rest n q b e more false g = ap (λ x. if name_eq w.lock q then w.thread ∷ x else x) more
 off w ws rest n q false e more true g = ap (λ x. if name_eq w.lock q then w.thread ∷ x else x) more
-off w ws rest n q true e more true g = more ∙ sym (ap (λ x. if x then w.thread ∷ waiters_of q ws else waiters_of q ws) (ap (λ (y : Name). name_eq y q) (one_name w.lock n g) ∙ e))
+off w ws rest n q true e more true g = more ∙ sym (ap (λ x. if x then w.thread ∷ waiters_of q ws else waiters_of q ws) (ap (λ (y : Name). name_eq y q) (name_eq-true w.lock n g) ∙ e))
 
+-- where one is woken
 pub moved_apart : (ws : List Waiter) (n q : Name) (t : ℕ) → name_eq n q ≡ false → waiters_of q (without_waiter n t ws) ≡ waiters_of q ws
 moved_apart [] n q t e = refl
 moved_apart (w ∷ ws) n q t e = off w ws (without_waiter n t ws) n q (w.thread == t) e (moved_apart ws n q t e) (name_eq w.lock n) refl
 
+-- and where all are
 pub all_moved_apart : (ws : List Waiter) (n q : Name) → name_eq n q ≡ false → waiters_of q (without_waiters n ws) ≡ waiters_of q ws
 all_moved_apart [] n q e = refl
 all_moved_apart (w ∷ ws) n q e = by_test (name_eq w.lock n) refl (all_moved_apart ws n q e)
   where
     by_test : (a : Bool) → name_eq w.lock n ≡ a → waiters_of q (without_waiters n ws) ≡ waiters_of q ws → waiters_of q (if not a then w ∷ without_waiters n ws else without_waiters n ws) ≡ waiters_of q (w ∷ ws)
     by_test false g more = ap (λ x. if name_eq w.lock q then w.thread ∷ x else x) more
-    by_test true g more = more ∙ sym (ap (λ x. if x then w.thread ∷ waiters_of q ws else waiters_of q ws) (ap (λ (y : Name). name_eq y q) (one_name w.lock n g) ∙ e))
+    by_test true g more = more ∙ sym (ap (λ x. if x then w.thread ∷ waiters_of q ws else waiters_of q ws) (ap (λ (y : Name). name_eq y q) (name_eq-true w.lock n g) ∙ e))
 
 -- ---- a change elsewhere
 
+-- a body that isn't addressed is another's
 apart_body : (key : Key) (n q : Name) → key ≡ OfBody n → OfBody q ≢ key → name_eq q n ≡ false
 apart_body key n q a ne = by_name (apart_or q n)
   where
@@ -80,6 +89,7 @@ apart_body key n q a ne = by_name (apart_or q n)
     by_name (inl e) = absurd (ne (ap OfBody e ∙ sym a))
     by_name (inr e) = e
 
+-- a lock that isn't addressed is another's
 apart_lock : (key : Key) (n q : Name) → key ≡ OfLock n → OfLock q ≢ key → name_eq q n ≡ false
 apart_lock key n q a ne = by_name (apart_or q n)
   where
@@ -87,6 +97,7 @@ apart_lock key n q a ne = by_name (apart_or q n)
     by_name (inl e) = absurd (ne (ap OfLock e ∙ sym a))
     by_name (inr e) = e
 
+-- a body on another node is not one that is made
 apart_made : (n q : Name) (node : ℕ) → n.node ≡ node → q.node ≢ node → name_eq q n ≡ false
 apart_made n q node a ne = by_name (apart_or q n)
   where
@@ -110,6 +121,7 @@ change-apart key name (Becomes c s) m (OfClass q) a w = ap Class (set_other m.cl
 change-apart key name (Printed us) m OfConsole a w = absurd (w.other (sym a))
 change-apart key name h m k a w = refl
 
+-- changes leave what lies elsewhere
 pub changes-apart : (key : Key) (name : Name) (hs : List Change) (m : State) (k : Key) → AreAt key name hs → Elsewhere key name.node k → cell (changed hs m) k ≡ cell m k
 changes-apart key name [] m k a w = refl
 changes-apart key name (h ∷ hs) m k a w = changes-apart key name hs (change h m) k a.1 w ∙ change-apart key name h m k a.0 w
@@ -119,6 +131,7 @@ record AtOne (name : Name) (d : Deed) : Type 0 where
   key : Key
   homes : AreAt key name d.changes
 
+-- a step's changes lie at one key
 at_one : (image : Program) (m : State) (c : Choice) (d : Deed) → Source image m c d → AtOne c.name d
 at_one image m c d idle = record { key = Nowhere; homes = tt }
 at_one image m c d (asks r d1 e) = record { key = key_of r; homes = (local_served image c.thread m c r d1 e).homes }
@@ -133,12 +146,14 @@ own_apart m t th (OfClass c) ne = refl
 own_apart m t th OfThreads ne = absurd (ne refl)
 own_apart m t th OfConsole ne = refl
 
+-- what a taken step leaves as it is
 moved_one : (image : Program) (m : State) (c : Choice) (th : ThreadState) (k : Taken) → taken_by image m c th ≡ Some k → OneHome m (moved_on m c.thread th k) c
 unfolding moved_on
 moved_one image m c th k e =
     let a = at_one image m c k.deed (of_taken image m c th k e) in
     record { key = a.key; rest = λ q w. changes-apart a.key c.name k.deed.changes (record m { threads = slice_set m.threads c.thread (after th k.stand) }) q a.homes w ∙ own_apart m c.thread (after th k.stand) q w.threads }
 
+-- the law
 pub one_home : OneHomeLaw
 unfolding step
 one_home image m l c e = by_thread (slice_get m.threads c.thread) e
@@ -153,11 +168,13 @@ one_home image m l c e = by_thread (slice_get m.threads c.thread) e
 
 -- ---- other threads
 
+-- what was there is there where a list grows
 pub get_append : {A : Type 0} (xs ys : List A) (u : ℕ) (x : A) → slice_get xs u ≡ Some x → slice_get (xs ++ ys) u ≡ Some x
 get_append [] ys u x e = absurd cc
 get_append (y ∷ xs) ys zero x e = e
 get_append (y ∷ xs) ys (suc u) x e = get_append xs ys u x e
 
+-- a change leaves the threads that are there
 thread_kept : (h : Change) (m : State) (u : ℕ) (th : ThreadState) → slice_get m.threads u ≡ Some th → slice_get (change h m).threads u ≡ Some th
 thread_kept (Started n) m u th e = get_append m.threads _ u th e
 thread_kept (Made n b) m u th e = e
@@ -173,10 +190,12 @@ thread_kept (Becomes c s) m u th e = e
 thread_kept (Lost x) m u th e = e
 thread_kept (Printed us) m u th e = e
 
+-- so do changes
 pub threads_kept : (hs : List Change) (m : State) (u : ℕ) (th : ThreadState) → slice_get m.threads u ≡ Some th → slice_get (changed hs m).threads u ≡ Some th
 threads_kept [] m u th e = e
 threads_kept (h ∷ hs) m u th e = threads_kept hs (change h m) u th (thread_kept h m u th e)
 
+-- the law
 pub other_threads : OtherThreadsLaw
 unfolding step moved_on
 other_threads image m l c u th e ne h = by_thread (slice_get m.threads c.thread) e

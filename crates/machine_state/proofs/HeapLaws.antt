@@ -6,6 +6,7 @@ use Rattle.jvm_base.specs.declared.value.Value.{Value}
 use Rattle.jvm_base.specs.declared.value.ObjectBody.{ObjectBody}
 use Rattle.jvm_base.specs.declared.value.ObjectBody.TheVariants.{Fields, Array, Text}
 use Rattle.jvm_base.specs.Maps.{put, replace}
+use Rattle.jvm_base.proofs.NameLaws.{name_eq-true}
 use Rattle.machine_state.proofs.MapLaws.{find-put, find-replace}
 use Rattle.jvm_base.specs.Names.{name_cmp, name_eq}
 use Rattle.jvm_base.specs.Words.{from}
@@ -14,7 +15,7 @@ use Rattle.machine_state.specs.State.{Heap, body_at}
 use Rattle.machine_state.specs.Events.{Place, FieldOf, ElementOf, ContentOf, Held, One, Content, one_held, place_name, part_in, held_at}
 use Rattle.machine_state.specs.Changes.{with_field, with_element, with_content, altered}
 use Rattle.machine_state.specs.Accesses.{place_eq}
-use Rattle.machine_state.proofs.NameTests.{names_total, one_name, same_or, test_true, test_false, not_both, set_same, set_other}
+use Rattle.machine_state.proofs.NameTests.{names_total, same_or, test_true, test_false, not_both, set_same, set_other}
 
 -- at a heap with one body put
 pub held_put : (heap : Heap) (n : Name) (b : ObjectBody) (p : Place) → held_at (put name_cmp n b heap) p ≡ cond (name_eq (place_name p) n) (part_in p b) (held_at heap p)
@@ -56,6 +57,7 @@ same_owner (ContentOf n) (ElementOf m j) e = absurd cc
 pub record SetsPlace (f : ObjectBody → ObjectBody) (p : Place) (h : Held) : Type 0 where
   pub sets : (q : Place) (b : ObjectBody) (g : Held) → name_eq (place_name q) (place_name p) ≡ true → part_in q (f b) ≡ Some g → cond (place_eq q p) (Some h) (part_in q b) ≡ Some g
 
+-- what an item holds after one of the list was set
 item_set : (vs : List Value) (i j : ℕ) (v : Value) (g : Held) → one_held (slice_get (slice_set vs i v) j) ≡ Some g → cond (j == i) (Some (One v)) (one_held (slice_get vs j)) ≡ Some g
 item_set vs i j v g e = by_place (same_or j i)
   where
@@ -67,10 +69,12 @@ item_set vs i j v g e = by_place (same_or j i)
     by_place (inl h) = ap (λ t. cond t (Some (One v)) (one_held (slice_get vs j))) (test_true j i h) ∙ at_value (slice_get (slice_set vs i v) i) refl (ap (λ (x : ℕ). one_held (slice_get (slice_set vs i v) x)) (sym h) ∙ e)
     by_place (inr ne) = ap (λ t. cond t (Some (One v)) (one_held (slice_get vs j))) (test_false j i ne) ∙ (ap one_held (sym (set_other vs i j v ne)) ∙ e)
 
+-- a test behind one that passes
 under : (t b : Bool) {A : Type 0} (x y z : A) → t ≡ true → cond b x y ≡ z → cond (t && b) x y ≡ z
 under true b x y z e h = h
 under false b x y z e h = absurd cc
 
+-- a put sets a field
 pub sets_field : (n : Name) (i : ℕ) (v : Value) → SetsPlace (with_field i v) (FieldOf n i) (One v)
 sets_field n i v = record { sets = go }
   where
@@ -85,6 +89,7 @@ sets_field n i v = record { sets = go }
     go (ContentOf m) (Array vs) g s e = absurd cc
     go (ContentOf m) (Text us) g s e = e
 
+-- a store sets an element
 pub sets_element : (n : Name) (i : ℕ) (v : Value) → SetsPlace (with_element i v) (ElementOf n i) (One v)
 sets_element n i v = record { sets = go }
   where
@@ -99,6 +104,7 @@ sets_element n i v = record { sets = go }
     go (ContentOf m) (Array vs) g s e = absurd cc
     go (ContentOf m) (Text us) g s e = e
 
+-- an append sets a content
 pub sets_content : (n : Name) (us : List ℕ) → SetsPlace (with_content us) (ContentOf n) (Content us)
 sets_content n us = record { sets = go }
   where
@@ -123,14 +129,14 @@ pub held_altered : (heap : Heap) (f : ObjectBody → ObjectBody) (p : Place) (h 
 held_altered heap f p h s q g e = by_body (body_at heap (place_name p)) refl e
   where
     there : (b : ObjectBody) → body_at heap (place_name p) ≡ Some b → name_eq (place_name q) (place_name p) ≡ true → part_in q b ≡ held_at heap q
-    there b a t = ap (from None (part_in q)) (sym a ∙ ap (λ (x : Name). body_at heap x) (sym (one_name (place_name q) (place_name p) t)))
+    there b a t = ap (from None (part_in q)) (sym a ∙ ap (λ (x : Name). body_at heap x) (sym (name_eq-true (place_name q) (place_name p) t)))
 
     apart : (t : Bool) → place_eq q p ≡ t → name_eq (place_name q) (place_name p) ≡ false → t ≡ false
     apart true a n = absurd (let c : name_eq (place_name q) (place_name p) ≡ true = same_owner q p a in cc)
     apart false a n = refl
 
     nothing : (t : Bool) → place_eq q p ≡ t → body_at heap (place_name p) ≡ None → held_at heap q ≡ Some g → cond t (Some h) (held_at heap q) ≡ Some g
-    nothing true a none e = absurd (not_both (ap (from None (part_in q)) (ap (λ (x : Name). body_at heap x) (one_name (place_name q) (place_name p) (same_owner q p a)) ∙ none)) e)
+    nothing true a none e = absurd (not_both (ap (from None (part_in q)) (ap (λ (x : Name). body_at heap x) (name_eq-true (place_name q) (place_name p) (same_owner q p a)) ∙ none)) e)
     nothing false a none e = e
 
     by_same : (t : Bool) (b : ObjectBody) → name_eq (place_name q) (place_name p) ≡ t → body_at heap (place_name p) ≡ Some b → cond t (part_in q (f b)) (held_at heap q) ≡ Some g → cond (place_eq q p) (Some h) (held_at heap q) ≡ Some g

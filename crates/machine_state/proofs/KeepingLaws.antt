@@ -22,16 +22,19 @@ use Rattle.machine_state.proofs.LocalLaws.{local_served, local_retakes}
 use Rattle.machine_state.proofs.FrameLaws.{apart_or, put_apart, altered_apart}
 use Rattle.machine_state.proofs.NewLaws.{AreMade, made_served, made_retakes, made_is_new}
 
+-- a deed's changes lie at one key, and what it makes joins its demands
 record Homes (name : Name) (d : Deed) : Type 0 where
   key : Key
   homes : AreAt key name d.changes
   made : AreMade name d.makes d.changes
 
+-- a step's changes lie at one key, and what it makes joins its demands
 homes_of : (image : Program) (m : State) (c : Choice) (d : Deed) → Source image m c d → Homes c.name d
 homes_of image m c d idle = record { key = Nowhere; homes = tt; made = tt }
 homes_of image m c d (asks r d1 e) = record { key = key_of r; homes = (local_served image c.thread m c r d1 e).homes; made = made_served image c.thread m c r d1 e }
 homes_of image m c d (wakes n k d1 e) = record { key = OfLock n; homes = (local_retakes m.heap c.name n c.thread k _ _ d1 e).homes; made = made_retakes c.name c.thread n k _ _ d1 e }
 
+-- the name of a granted step fits
 fits_of : (m : State) (c : Choice) (th : ThreadState) (o : Option Taken) (k : Taken) → granted m c o ≡ Some k → name_fits m.heap c.name k.deed.makes ≡ true
 fits_of m c th None k h = absurd cc
 fits_of m c th (Some x) k h = by_test (pick_fits c.pick x.deed.waiters) (name_fits m.heap c.name x.deed.makes) refl h
@@ -49,6 +52,7 @@ differs heap n q b e f = by_name (apart_or n q)
     by_name (inl h) = absurd (not_both (ap (λ (x : Name). body_at heap x) h ∙ f) e)
     by_name (inr h) = h
 
+-- another body than the addressed one
 addressed : (key : Key) (n q : Name) → key ≡ OfBody q → OfBody n ≢ key → name_eq n q ≡ false
 addressed key n q a ne = by_name (apart_or n q)
   where
@@ -56,6 +60,7 @@ addressed key n q a ne = by_name (apart_or n q)
     by_name (inl h) = absurd (ne (ap OfBody h ∙ sym a))
     by_name (inr h) = h
 
+-- changes keep a body that is there and is not addressed
 pub kept : (heap : Heap) (key : Key) (name : Name) (makes : List ℕ) (n : Name) (b : ObjectBody) → name_fits heap name makes ≡ true → body_at heap n ≡ Some b → OfBody n ≢ key
     → (hs : List Change) (m : State) → AreAt key name hs → AreMade name makes hs → body_at m.heap n ≡ Some b → body_at (changed hs m).heap n ≡ Some b
 kept heap key name makes n b f e ne [] m a d h = h
@@ -73,12 +78,14 @@ kept heap key name makes n b f e ne (Started q ∷ hs) m a d h = kept heap key n
 kept heap key name makes n b f e ne (Lost u ∷ hs) m a d h = kept heap key name makes n b f e ne hs (change (Lost u) m) a.1 d h
 kept heap key name makes n b f e ne (Printed us ∷ hs) m a d h = kept heap key name makes n b f e ne hs (change (Printed us) m) a.1 d h
 
+-- so does a taken step
 moved_keeps : (image : Program) (m : State) (c : Choice) (th : ThreadState) (k : Taken) → taken_by image m c th ≡ Some k → KeepsBodies m (moved_on m c.thread th k)
 unfolding moved_on taken_by
 moved_keeps image m c th k e =
     let h = homes_of image m c k.deed (of_taken image m c th k e) in
     record { key = h.key; kept = λ n b ne g. kept m.heap h.key c.name k.deed.makes n b (fits_of m c th (attempt image m c th) k e) g ne k.deed.changes (record m { threads = slice_set m.threads c.thread (after th k.stand) }) h.homes h.made g }
 
+-- the law
 pub keeps_bodies : KeptLaw
 unfolding step
 keeps_bodies image m l c e = by_thread (slice_get m.threads c.thread) e

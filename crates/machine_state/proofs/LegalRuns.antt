@@ -4,6 +4,7 @@ use Rattle.std.specs.Prelude.{slice_get, slice_set, length}
 use Rattle.jvm_base.specs.declared.name.Name.{Name}
 use Rattle.jvm_base.specs.declared.value.ObjectBody.{ObjectBody}
 use Rattle.jvm_base.specs.declared.frame.Level.{Level}
+use Rattle.jvm_base.proofs.NameLaws.{name_eq-true}
 use Rattle.machine_state.specs.declared.state.Choice.{Choice}
 use Rattle.machine_state.specs.declared.state.Mode.{Mode}
 use Rattle.machine_state.specs.declared.state.Mode.TheVariants.{Entry, Waiting}
@@ -26,7 +27,7 @@ use Rattle.machine_state.specs.Runs.{run_events}
 use Rattle.machine_state.specs.Start.{start, start_events, first_writes}
 use Rattle.machine_state.specs.PreMade.{pre_made, main_thread}
 use Rattle.machine_state.specs.LegalLocks.{Awake, Asleep, Woken, Standing, wakened, at_lock, lock_of, Allowed, standing, LegalLocks, LegalLocksLaw}
-use Rattle.machine_state.proofs.NameTests.{name_itself, same_or, test_true, test_false, some_is, not_both, one_name, set_same, set_other}
+use Rattle.machine_state.proofs.NameTests.{name_itself, same_or, test_true, test_false, some_is, not_both, set_same, set_other}
 use Rattle.machine_state.proofs.FrameLaws.{apart_or, threads_kept}
 use Rattle.machine_state.proofs.WriteLaws.{onto_append}
 use Rattle.machine_state.proofs.LockDeeds.{LockDeed, free, first, again, left, slept, nobody, somebody, everybody, NotSlept, lock_served}
@@ -68,6 +69,7 @@ from_changes (h ∷ hs) m u x e = before h (from_changes hs (change h m) u x e)
     before (Lost y) p = p
     before (Printed us) p = p
 
+-- a thread that is not there after changes was not there before
 still_none : (hs : List Change) (m : State) (u : ℕ) → slice_get (changed hs m).threads u ≡ None → slice_get m.threads u ≡ None
 still_none hs m u e = by_thread (slice_get m.threads u) refl
   where
@@ -75,6 +77,7 @@ still_none hs m u e = by_thread (slice_get m.threads u) refl
     by_thread None f = f
     by_thread (Some x) f = absurd (not_both e (threads_kept hs m u x f))
 
+-- nor one that is not there after another was set
 set_none : {A : Type 0} (xs : List A) (t u : ℕ) (y : A) → slice_get (slice_set xs t y) u ≡ None → slice_get xs u ≡ None
 set_none [] t u y e = refl
 set_none (x ∷ xs) zero zero y e = absurd cc
@@ -107,6 +110,7 @@ Calm (Waits n) = ⊥
 Calm (Retakes n) = ⊥
 Calm k = Unit {0}
 
+-- an event without waiting keeps who is awake
 calm_awake : (k : LockEvent) (b : Bool) (u : ℕ) (s : Standing) → Calm k → s.stage ≡ Awake → (at_lock b u k s).stage ≡ Awake
 calm_awake (Enters n) true u s c e = e
 calm_awake (Enters n) false u s c e = e
@@ -122,6 +126,7 @@ calm_awake (Notifies n (Some x)) b u s c e = by_test (x == u)
     by_test true = ap wakened e
     by_test false = e
 
+-- for the thread itself
 still_awake : (st : ℕ → Name → Standing) (t : ℕ) (k : LockEvent) (n : Name) → Calm k → (st t n).stage ≡ Awake → (after_lock st t k t n).stage ≡ Awake
 still_awake st t k n c e = by_test (name_eq (lock_of k) n)
   where
@@ -131,6 +136,7 @@ still_awake st t k n c e = by_test (name_eq (lock_of k) n)
 
 -- ---- one step
 
+-- what is told is legal, and the state agrees with it
 pub record Holds (m : State) (told : List Told) : Type 0 where
   pub law : LegalLocks told
   pub locks : LocksAgree m.monitors m.waiting (standing told)
@@ -170,9 +176,11 @@ told_on m l t d told s law = subst (λ x. Holds l x) (sym whole) (by_effect s.ef
       modes = subst (λ st. ModesAgree l.threads (after_lock st t k)) (sym stands) (s.one k e);
     })
 
+-- a list without events has no first one
 no_lock_list : (k : LockEvent) (ks : List LockEvent) → ks ≡ [] → ks ≡ k ∷ [] → ⊥
 no_lock_list k ks e f = cc
 
+-- two lists of one event have the same
 head_is : (j k : LockEvent) (ks : List LockEvent) → ks ≡ j ∷ [] → ks ≡ k ∷ [] → j ≡ k
 head_is j k ks e f = cc
 
@@ -212,10 +220,11 @@ wait_step m t own new d st n o e b a w v f g x y = record {
 
     waits : (q : Name) → WaitsAt n o.count q (after_lock st t (Waits n) t q)
     waits q = record {
-      here = λ i. subst (λ (s : Standing). (s.stage ≢ Awake) × ((s.kept ≡ o.count) × (0 < o.count))) (sym (at_own q i)) (not_up, (ap (λ (z : Name). (st t z).held) (sym (one_name n q i)) ∙ held_by m.monitors m.waiting st t n o b f g, b.counts n o f));
+      here = λ i. subst (λ (s : Standing). (s.stage ≢ Awake) × ((s.kept ≡ o.count) × (0 < o.count))) (sym (at_own q i)) (not_up, (ap (λ (z : Name). (st t z).held) (sym (name_eq-true n q i)) ∙ held_by m.monitors m.waiting st t n o b f g, b.counts n o f));
       there = λ i. ap (λ (s : Standing). s.stage) (lock_apart st t (Waits n) t q i) ∙ fit_awake q own.mode (st t q) w (a.modes t own e q);
     }
 
+-- and it is as calm
 calm_is : (j k : LockEvent) (ks : List LockEvent) → Calm j → ks ≡ j ∷ [] → ks ≡ k ∷ [] → Calm k
 calm_is j k ks c e f = subst (λ (i : LockEvent). Calm i) (head_is j k ks e f) c
 
@@ -282,6 +291,7 @@ retake_step m t own new st n j e b a w v f g = record {
     awake q (inl h) = subst (λ (x : Name). (after_lock st t (Retakes n) t x).stage ≡ Awake) h (ap (λ (x : Standing). x.stage) (lock_at st t (Retakes n) t) ∙ ap (λ x. (at_lock x t (Retakes n) (st t n)).stage) (test_true t t refl))
     awake q (inr h) = ap (λ (x : Standing). x.stage) (lock_apart st t (Retakes n) t q h) ∙ (fits q).there h
 
+-- a thread takes its lock again
 wake_step : (m : State) (t : ℕ) (own : ThreadState) (k : Taken) (st : ℕ → Name → Standing) (n : Name) (j : ℕ) → slice_get m.threads t ≡ Some own → LocksAgree m.monitors m.waiting st → ModesAgree m.threads st
     → own.mode ≡ Waiting n j → NotWaiting k.stand.0 → retakes t n j (owner_at m.monitors n) (waiters_of n m.waiting) ≡ Some k.deed
     → Stepped m (changed k.deed.changes (record m { threads = slice_set m.threads t (after own k.stand) })) t st k.deed.locks
@@ -298,6 +308,7 @@ wake_step m t own k st n j e b a w v r = by_owner (owner_at m.monitors n) refl r
 
 -- ---- any step, any run
 
+-- a taken step keeps the agreement, and its events are legal
 taken_step : (image : Program) (m : State) (c : Choice) (own : ThreadState) (k : Taken) (st : ℕ → Name → Standing) → slice_get m.threads c.thread ≡ Some own → LocksAgree m.monitors m.waiting st → ModesAgree m.threads st → Taking image m c own.mode k
     → Stepped m (changed k.deed.changes (record m { threads = slice_set m.threads c.thread (after own k.stand) })) c.thread st k.deed.locks
 taken_step image m c own k st e b a g = by_act g.acts
@@ -307,6 +318,7 @@ taken_step image m c own k st e b a g = by_act g.acts
     by_act (asks r ls w s t) = request_step image m c own k r ls st e b a w g.picks t (lock_served image c.thread m c r k.deed s)
     by_act (wakes n j w r v) = wake_step m c.thread own k st n j e b a w v r
 
+-- so does a step
 pub step_holds : (image : Program) (m l : State) (c : Choice) (told : List Told) → step image m c ≡ Some l → Holds m told → Holds l (onto (step_events image m c) told)
 unfolding step step_events moved_on
 step_holds image m l c told e h = by_thread (slice_get m.threads c.thread) refl e
@@ -321,6 +333,7 @@ step_holds image m l c told e h = by_thread (slice_get m.threads c.thread) refl 
     by_thread None i e = absurd cc
     by_thread (Some th) i e = by_taken th i (taken_by image m c th) refl e
 
+-- so does a run
 run_holds : (image : Program) (m : State) (told : List Told) (order : List Choice) → Holds m told → LegalLocks (run_events image m told order)
 unfolding run_events
 run_holds image m told [] h = h.law
@@ -338,6 +351,7 @@ premade_stands (o ∷ os) told l =
     let r = premade_stands os (onto (told_by None (body_writes o.0 o.1)) told) (legal_on None (body_writes o.0 o.1) told (no_lock-body o.0 o.1) l) in
     (r.0, r.1 ∙ stands_on None (body_writes o.0 o.1) told (no_lock-body o.0 o.1))
 
+-- before the first step
 fresh_modes : (object : Name) → ModesAgree (new_thread object ∷ []) (standing [])
 fresh_modes object = record { modes = go; absent = λ u e n. refl }
   where
@@ -345,6 +359,7 @@ fresh_modes object = record { modes = go; absent = λ u e n. refl }
     go zero th e n = subst (λ (x : ThreadState). ModeFits n x.mode (standing [] zero n)) (some_is e) refl
     go (suc u) th e n = absurd cc
 
+-- the law
 pub legal_locks : LegalLocksLaw
 unfolding start start_events
 legal_locks image args order =

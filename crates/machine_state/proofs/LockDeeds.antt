@@ -36,6 +36,7 @@ Free (Moved n t ∷ hs) = ⊥
 Free (MovedAll n ∷ hs) = ⊥
 Free (h ∷ hs) = Free hs
 
+-- the thread goes on
 abbrev pub NotSlept : Answer → Type 0
 NotSlept (Slept k) = ⊥
 NotSlept a = Unit {0}
@@ -51,23 +52,29 @@ pub data LockDeed (m : State) (t pick : ℕ) : Request → Deed → Type 0 where
   somebody : {r : Request} {d : Deed} (n : Name) (o : MonitorState) → owner_at m.monitors n ≡ Some o → o.owner ≡ t → d.waiters ≡ waiters_of n m.waiting → d.waiters ≢ [] → d.locks ≡ Notifies n (Some pick) ∷ [] → d.changes ≡ Moved n pick ∷ [] → NotSlept d.answer → LockDeed m t pick r d
   everybody : {r : Request} {d : Deed} (n : Name) (o : MonitorState) → owner_at m.monitors n ≡ Some o → o.owner ≡ t → d.locks ≡ NotifiesAll n ∷ [] → d.changes ≡ MovedAll n ∷ [] → NotSlept d.answer → LockDeed m t pick r d
 
+-- what is served does this with locks
 abbrev pub LockIf : State → ℕ → ℕ → Request → Option Deed → Type 0
 LockIf m t pick r o = (d : Deed) → o ≡ Some d → LockDeed m t pick r d
 
+-- where nothing is served
 none : (m : State) (t pick : ℕ) (r : Request) → LockIf m t pick r None
 none m t pick r d e = absurd cc
 
+-- where a deed is
 some : (m : State) (t pick : ℕ) (r : Request) (d : Deed) → LockDeed m t pick r d → LockIf m t pick r (Some d)
 some m t pick r d l e h = subst (λ x. LockDeed m t pick r x) (some_is h) l
 
+-- by a test
 either : (m : State) (t pick : ℕ) (r : Request) (b : Bool) (x y : Option Deed) → LockIf m t pick r x → LockIf m t pick r y → LockIf m t pick r (if b then x else y)
 either m t pick r true x y l k = l
 either m t pick r false x y l k = k
 
+-- deeds by a test
 either_deed : (m : State) (t pick : ℕ) (r : Request) (b : Bool) (x y : Deed) → LockDeed m t pick r x → LockDeed m t pick r y → LockDeed m t pick r (if b then x else y)
 either_deed m t pick r true x y l k = l
 either_deed m t pick r false x y l k = k
 
+-- makes touch no lock
 free_made : (os : List (Name × ObjectBody)) → Free (map (λ o. Made o.0 o.1) os)
 free_made [] = tt
 free_made (o ∷ os) = free_made os
@@ -158,6 +165,7 @@ module _ (m : State) (t pick : ℕ) (r : Request) where
   lock_ends None = free refl tt tt
   lock_ends (Some e) = free refl tt tt
 
+-- the begin of an initialisation
 lock_begins : (m : State) (t pick : ℕ) (r : Request) (u c : ℕ) (s : Option ClassState) → LockDeed m t pick r (changing (Becomes c (class_state.Running u) ∷ []) None) → LockIf m t pick r (begins u c s)
 lock_begins m t pick r u c (Some class_state.Untouched) l = some m t pick r _ l
 lock_begins m t pick r u c (Some (class_state.Running v)) l = none m t pick r
@@ -165,6 +173,7 @@ lock_begins m t pick r u c (Some class_state.Done) l = none m t pick r
 lock_begins m t pick r u c (Some class_state.Failed) l = none m t pick r
 lock_begins m t pick r u c None l = none m t pick r
 
+-- the end of one
 lock_runner : (m : State) (t pick : ℕ) (r : Request) (u : ℕ) (s : Option ClassState) (d : Deed) → LockDeed m t pick r d → LockIf m t pick r (by_runner u s d)
 lock_runner m t pick r u (Some (class_state.Running v)) d l = either m t pick r (v == u) _ _ (some m t pick r _ l) (none m t pick r)
 lock_runner m t pick r u (Some class_state.Untouched) d l = none m t pick r
@@ -172,6 +181,7 @@ lock_runner m t pick r u (Some class_state.Done) d l = none m t pick r
 lock_runner m t pick r u (Some class_state.Failed) d l = none m t pick r
 lock_runner m t pick r u None d l = none m t pick r
 
+-- every request
 pub lock_served : (image : Program) (t : ℕ) (m : State) (c : Choice) (r : Request) → LockIf m t c.pick r (serve image t c r (cell m (key_of r)))
 unfolding serve
 lock_served image t m c (Get n i) = lock_get m t c.pick (Get n i) n i _

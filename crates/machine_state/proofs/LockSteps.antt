@@ -22,26 +22,30 @@ use Rattle.machine_state.specs.LegalLocks.{Stage, Awake, Asleep, Woken, Standing
 use Rattle.machine_state.proofs.NameTests.{same_or, test_true, test_false}
 use Rattle.machine_state.proofs.FrameLaws.{sleeps_apart, moved_apart, all_moved_apart}
 use Rattle.machine_state.proofs.LockDeeds.{LockDeed, free, first, again, left, slept, nobody, somebody, everybody, Free}
-use Rattle.machine_state.proofs.Agreements.{count_of, is_asleep, LocksAgree, after_lock, owns_put, owns_freed, counts_put, counts_freed, held_by, others_free, all_free, sleeps_same, sleeps_changed, added_waiter, taken_waiter, no_waiters}
+use Rattle.machine_state.proofs.Agreements.{wakened_up, count_of, is_asleep, LocksAgree, after_lock, owns_put, owns_freed, counts_put, counts_freed, held_by, others_free, all_free, sleeps_same, sleeps_changed, added_waiter, taken_waiter, no_waiters}
 
 -- ---- events that are of no lock
 
+-- no event is of a lock
 abbrev pub NoLock : List Event → Type 0
 NoLock [] = Unit {0}
 NoLock (Locks l ∷ es) = ⊥
 NoLock (Reads p h ∷ es) = NoLock es
 NoLock (Writes p h ∷ es) = NoLock es
 
+-- lists of them
 pub no_lock-append : (xs ys : List Event) → NoLock xs → NoLock ys → NoLock (xs ++ ys)
 no_lock-append [] ys a b = b
 no_lock-append (Locks l ∷ xs) ys a b = absurd a
 no_lock-append (Reads p h ∷ xs) ys a b = no_lock-append xs ys a b
 no_lock-append (Writes p h ∷ xs) ys a b = no_lock-append xs ys a b
 
+-- writes that follow one another
 no_lock-items : (at : ℕ → Place) (i : ℕ) (vs : List Value) → NoLock (item_writes at i vs)
 no_lock-items at i [] = tt
 no_lock-items at i (v ∷ vs) = no_lock-items at (i + 1) vs
 
+-- the writes of a body
 pub no_lock-body : (n : Name) (b : ObjectBody) → NoLock (body_writes n b)
 no_lock-body n (Fields vs) = no_lock-items (FieldOf n) 0 vs
 no_lock-body n (Array vs) = no_lock-items (ElementOf n) 0 vs
@@ -51,6 +55,7 @@ no_lock-body n (Text us) = by_test (is_buffer n.class)
     by_test true = tt
     by_test false = tt
 
+-- those of a change
 no_lock-change : (h : Change) → NoLock (writes_of h)
 no_lock-change (Made n b) = no_lock-body n b
 no_lock-change (SetsField n i v) = tt
@@ -58,24 +63,29 @@ no_lock-change (SetsElement n i v) = tt
 no_lock-change (SetsContent n us) = tt
 no_lock-change h = tt
 
+-- those of changes
 pub no_lock-changes : (hs : List Change) → NoLock (writes hs)
 no_lock-changes [] = tt
 no_lock-changes (h ∷ hs) = no_lock-append (writes_of h) (writes hs) (no_lock-change h) (no_lock-changes hs)
 
+-- reads
 pub no_lock-reads : (rs : List (Place × Held)) → NoLock (reads_of rs)
 no_lock-reads [] = tt
 no_lock-reads (r ∷ rs) = no_lock-reads rs
 
+-- events that are of no lock change nobody's standing
 pub stands_on : (by : Option ℕ) (es : List Event) (told : List Told) → NoLock es → standing (onto (told_by by es) told) ≡ standing told
 stands_on by [] told n = refl
 stands_on by (Locks l ∷ es) told n = absurd n
 stands_on by (Reads p h ∷ es) told n = stands_on by es (record { thread = by; event = Reads p h } ∷ told) n ∙ fun_ext (λ u. fun_ext (λ q. refl))
 stands_on by (Writes p h ∷ es) told n = stands_on by es (record { thread = by; event = Writes p h } ∷ told) n ∙ fun_ext (λ u. fun_ext (λ q. refl))
 
+-- reads and writes are legal
 plain_legal : (by : Option ℕ) (st : ℕ → Name → Standing) (p : Place) (h : Held) → IsLegal st by (Reads p h) × IsLegal st by (Writes p h)
 plain_legal None st p h = (tt, tt)
 plain_legal (Some t) st p h = (tt, tt)
 
+-- so they keep what is legal
 pub legal_on : (by : Option ℕ) (es : List Event) (told : List Told) → NoLock es → LegalLocks told → LegalLocks (onto (told_by by es) told)
 legal_on by [] told n l = l
 legal_on by (Locks k ∷ es) told n l = absurd n
@@ -84,6 +94,7 @@ legal_on by (Writes p h ∷ es) told n l = legal_on by es (record { thread = by;
 
 -- ---- changes that are of no lock
 
+-- changes that touch no lock keep the agreement
 free_agrees : (hs : List Change) (m : State) (st : ℕ → Name → Standing) → Free hs → LocksAgree m.monitors m.waiting st → LocksAgree (changed hs m).monitors (changed hs m).waiting st
 free_agrees [] m st f a = a
 free_agrees (Made n b ∷ hs) m st f a = free_agrees hs (change (Made n b) m) st f a
@@ -102,17 +113,21 @@ free_agrees (Printed us ∷ hs) m st f a = free_agrees hs (change (Printed us) m
 
 -- ---- what a deed does to the standings: no event of a lock, or one that is allowed
 
+-- the changes and events of a deed keep the agreement of locks: it has none, or one
 pub data Effect (t : ℕ) (st : ℕ → Name → Standing) (ks : List LockEvent) (owners : Owners) (waiting : List Waiter) : Type 0 where
   no_event : ks ≡ [] → LocksAgree owners waiting st → Effect t st ks owners waiting
   one_event : (k : LockEvent) → ks ≡ k ∷ [] → Allowed st t k → LocksAgree owners waiting (after_lock st t k) → Effect t st ks owners waiting
 
+-- the effect by the changes and events that were made
 pub by_changes : (t : ℕ) (st : ℕ → Name → Standing) (ks : List LockEvent) (hs gs : List Change) (m : State) → hs ≡ gs → Effect t st ks (changed gs m).monitors (changed gs m).waiting → Effect t st ks (changed hs m).monitors (changed hs m).waiting
 by_changes t st ks hs gs m e f = subst (λ (x : List Change). Effect t st ks (changed x m).monitors (changed x m).waiting) (sym e) f
 
+-- a count says nothing of sleep
 same_asleep : (b : Bool) (s : Standing) (h : ℕ) → is_asleep (if b then record s { held = h } else s).stage ≡ is_asleep s.stage
 same_asleep true s h = refl
 same_asleep false s h = refl
 
+-- a lock is entered
 pub enters_effect : (m : State) (t : ℕ) (st : ℕ → Name → Standing) (n : Name) (j : ℕ) → LocksAgree m.monitors m.waiting st → (st t n).held + 1 ≡ j → OthersFree st t n → LocksAgree (put name_cmp n (owned t j) m.monitors) m.waiting (after_lock st t (Enters n))
 enters_effect m t st n j a h o = record {
   owns = owns_put m.monitors m.waiting st t j (Enters n) a h (λ u ne. o u ne);
@@ -124,6 +139,7 @@ enters_effect m t st n j a h o = record {
     by_test true u = refl
     by_test false u = refl
 
+-- a lock is left
 leaves_effect : (m : State) (t : ℕ) (st : ℕ → Name → Standing) (n : Name) (o : MonitorState) → LocksAgree m.monitors m.waiting st → owner_at m.monitors n ≡ Some o → o.owner ≡ t → LocksAgree (change (released n o) m).monitors (change (released n o) m).waiting (after_lock st t (Leaves n))
 leaves_effect m t st n o a e f = by_count (same_or o.count 1)
   where
@@ -153,6 +169,7 @@ leaves_effect m t st n o a e f = by_count (same_or o.count 1)
       sleeps = sleeps_same m.monitors m.waiting st t (Leaves n) a (λ u. asleep (t == u) u);
     }))
 
+-- a thread falls asleep
 waits_effect : (m : State) (t : ℕ) (st : ℕ → Name → Standing) (n : Name) (o : MonitorState) → LocksAgree m.monitors m.waiting st → owner_at m.monitors n ≡ Some o → o.owner ≡ t → LocksAgree (changed (Freed n ∷ Sleeps n t ∷ []) m).monitors (changed (Freed n ∷ Sleeps n t ∷ []) m).waiting (after_lock st t (Waits n))
 waits_effect m t st n o a e f = record {
   owns = owns_freed m.monitors m.waiting st t (Waits n) a (λ u. gone u (same_or t u));
@@ -184,6 +201,7 @@ owns_same os ws st t k a keeps n u = by_test (name_eq (lock_of k) n)
     by_test true = keeps (t == u) u (st u n) ∙ a.owns n u
     by_test false = a.owns n u
 
+-- a notify changes no count
 notify_keeps : (n : Name) (p : Option ℕ) (b : Bool) (u : ℕ) (s : Standing) → (at_lock b u (Notifies n p) s).held ≡ s.held
 notify_keeps n None b u s = refl
 notify_keeps n (Some x) b u s = by_test (x == u)
@@ -192,31 +210,30 @@ notify_keeps n (Some x) b u s = by_test (x == u)
     by_test true = refl
     by_test false = refl
 
+-- who is no sleeper
 awake_none : (g : Stage) → is_asleep g ≡ false → g ≢ Asleep
 awake_none Awake e h = absurd cc
 awake_none Asleep e h = absurd cc
 awake_none Woken e h = absurd cc
 
+-- who is one
 asleep_is : (g : Stage) → is_asleep g ≡ true → g ≡ Asleep
 asleep_is Awake e = absurd cc
 asleep_is Asleep e = refl
 asleep_is Woken e = absurd cc
 
+-- who is neither awake nor asleep woke
 pub not_awake : (g : Stage) → g ≢ Awake → is_asleep g ≡ false → g ≡ Woken
 not_awake Awake ne e = absurd (ne refl)
 not_awake Asleep ne e = absurd cc
 not_awake Woken ne e = refl
-
-wakened_up : (g : Stage) → is_asleep (wakened g) ≡ false
-wakened_up Awake = refl
-wakened_up Asleep = refl
-wakened_up Woken = refl
 
 -- a pick that fits is one of the waiters, where there are any
 picked : (pick : ℕ) (ws : List ℕ) → ws ≢ [] → pick_fits pick ws ≡ true → has ws pick ≡ true
 picked pick [] ne e = absurd (ne refl)
 picked pick (w ∷ ws) ne e = e
 
+-- every deed
 pub deed_effect : (m l : State) (t pick : ℕ) (r : Request) (d : Deed) (st : ℕ → Name → Standing) → l.monitors ≡ m.monitors → l.waiting ≡ m.waiting → pick_fits pick d.waiters ≡ true → LocksAgree m.monitors m.waiting st → LockDeed m t pick r d
     → Effect t st d.locks (changed d.changes l).monitors (changed d.changes l).waiting
 deed_effect m l t pick r d st p q w a0 (free f g s) = no_event f (free_agrees d.changes l st g a)

@@ -12,7 +12,8 @@ use Rattle.std.specs.Prelude.{IsSome}
 use Rattle.jvm_base.specs.declared.name.Name.{Name}
 use Rattle.jvm_base.specs.Names.{name_cmp, name_eq}
 use Rattle.jvm_base.specs.Maps.{find, put, replace}
-use Rattle.machine_state.proofs.NameTests.{names_total, one_name}
+use Rattle.jvm_base.proofs.NameLaws.{name_eq-true}
+use Rattle.machine_state.proofs.NameTests.{names_total}
 
 module _ {K X : Type 0} (R : K → K → Ordering) where
   same_find : (q : K) (es : List (K × X)) → find R q es ≡ map.find R q es
@@ -36,4 +37,4 @@ module _ {K X : Type 0} (R : K → K → Ordering) where
 
 -- a name that is there takes another value
 pub find-replace : {X : Type 0} (n q : Name) (v b : X) (es : List (Name × X)) → find name_cmp n es ≡ Some b → find name_cmp q (replace name_cmp n v es) ≡ cond (name_eq q n) (Some v) (find name_cmp q es)
-find-replace n q v b es e = lookup-set_value (eq_by_cmp_equiv names_total) (name_eq n) (λ x y t. ap (λ (z : Name). name_eq z y) (one_name n x t)) q v es (subst (λ o. IsSome o) (sym e) refl) ∙ ap (λ t. cond t (Some v) (find name_cmp q es)) ((eq_by_cmp_equiv names_total).symm n q)
+find-replace n q v b es e = lookup-set_value (eq_by_cmp_equiv names_total) (name_eq n) (λ x y t. ap (λ (z : Name). name_eq z y) (name_eq-true n x t)) q v es (subst (λ o. IsSome o) (sym e) refl) ∙ ap (λ t. cond t (Some v) (find name_cmp q es)) ((eq_by_cmp_equiv names_total).symm n q)

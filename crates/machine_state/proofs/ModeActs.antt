@@ -27,15 +27,18 @@ use Rattle.machine_state.proofs.NameTests.{some_is}
 use Rattle.machine_state.proofs.LockDeeds.{NotSlept}
 use Rattle.machine_state.specs.BootClasses.{no_class_found}
 
+-- the mode isn't that of a thread that waits
 abbrev pub NotWaiting : Mode → Type 0
 NotWaiting (Waiting n k) = ⊥
 NotWaiting mode = Unit {0}
 
+-- what a thread takes, with its mode before and after
 pub data Acts (image : Program) (m : State) (c : Choice) (mode : Mode) : Taken → Type 0 where
   alone : {k : Taken} → NotWaiting mode → k.deed ≡ quiet None → NotWaiting k.stand.0 → Acts image m c mode k
   asks : {k : Taken} (r : Request) (ls : List Level) → NotWaiting mode → serve image c.thread c r (cell m (key_of r)) ≡ Some k.deed → k.stand ≡ complete image r k.deed.answer mode ls → Acts image m c mode k
   wakes : {k : Taken} (n : Name) (j : ℕ) → mode ≡ Waiting n j → retakes c.thread n j (owner_at m.monitors n) (waiters_of n m.waiting) ≡ Some k.deed → NotWaiting k.stand.0 → Acts image m c mode k
 
+-- what is taken acts so
 abbrev pub ActsIf : Program → State → Choice → Mode → Option Taken → Type 0
 ActsIf image m c mode o = (k : Taken) → o ≡ Some k → Acts image m c mode k
 
@@ -83,6 +86,7 @@ module _ (image : Program) (m : State) (c : Choice) (mode : Mode) (ls : List Lev
       by_ask None = of_performed p.next
       by_ask (Some q) = of_asked p.next q (slice_get m.classes q)
 
+-- a lock that is taken again
 of_retaken : (image : Program) (m : State) (c : Choice) (ls : List Level) (n : Name) (j : ℕ) → ActsIf image m c (Waiting n j) (retaken m c ls n j)
 of_retaken image m c ls n j = by_deed (retakes c.thread n j (owner_at m.monitors n) (waiters_of n m.waiting)) refl
   where
@@ -95,6 +99,7 @@ pub record Taking (image : Program) (m : State) (c : Choice) (mode : Mode) (k : 
   pub acts : Acts image m c mode k
   pub picks : pick_fits c.pick k.deed.waiters ≡ true
 
+-- what is granted acts so
 granted_is : (image : Program) (m : State) (c : Choice) (th : ThreadState) (mode : Mode) (o : Option Taken) → ActsIf image m c mode o → (k : Taken) → granted m c o ≡ Some k → Taking image m c mode k
 granted_is image m c th mode None a k h = absurd cc
 granted_is image m c th mode (Some x) a k h = by_test (pick_fits c.pick x.deed.waiters) (name_fits m.heap c.name x.deed.makes) refl h
@@ -104,6 +109,7 @@ granted_is image m c th mode (Some x) a k h = by_test (pick_fits c.pick x.deed.w
     by_test true false e h = absurd cc
     by_test false q e h = absurd cc
 
+-- so does what is taken
 pub taking : (image : Program) (m : State) (c : Choice) (th : ThreadState) (k : Taken) → taken_by image m c th ≡ Some k → Taking image m c th.mode k
 unfolding taken_by attempt
 taking image m c th k h = granted_is image m c th th.mode (by_mode image m c th th.mode) (of_mode th.mode refl) k h
@@ -139,6 +145,7 @@ mode_after image r (Raises e) mode ls w s = by_request r
     by_request _ = tt
 mode_after image r (Slept k) mode ls w s = absurd s
 
+-- who falls asleep waits
 pub mode_asleep : (image : Program) (n : Name) (k : ℕ) (mode : Mode) (ls : List Level) → (complete image (Wait n) (Slept k) mode ls).0 ≡ Waiting n k
 unfolding complete
 mode_asleep image n k mode ls = refl

@@ -3,32 +3,19 @@ use Rattle.std.proofs.Common.{◌≡◌, ◌≢◌, ◌⊎◌, inl, inr, ℕ, ze
 use Rattle.std.specs.Prelude.{slice_get, slice_set}
 use Rattle.std.proofs.lemmas.Bool.Decides.{Decides-eqb}
 use Rattle.std.specs.Cmp.{IsTotalOrder, nat_cmp_total, eq_by_cmp_equiv}
-use Rattle.std.specs.Ordering.{nat_cmp, is_eq}
-use Rattle.std.specs.declared.cmp.Ordering.{Ordering}
-use Rattle.std.specs.declared.cmp.Ordering.TheVariants.{Less, Equal, Greater}
 use Rattle.std.proofs.lemmas.Cmp.{on_total, then_total}
-use Rattle.std.proofs.lemmas.Map.Lookups.{CmpEqualImpliesEq, exact_pairs, exact_unsigned}
 use Rattle.jvm_base.specs.declared.name.Name.{Name}
 use Rattle.jvm_base.specs.Names.{name_cmp, name_eq}
 
+-- names are ordered totally
 pub names_total : IsTotalOrder name_cmp
 names_total = then_total (on_total (λ n. n.node) nat_cmp_total) (then_total (on_total (λ n. n.class) nat_cmp_total) (on_total (λ n. n.index) nat_cmp_total))
 
-pub exact_names : CmpEqualImpliesEq name_cmp
-exact_names a b h = ap (λ (p : ℕ × (ℕ × ℕ)). record { node = p.0; class = p.1.0; index = p.1.1 }) (exact_pairs nat_cmp _ exact_unsigned (exact_pairs nat_cmp nat_cmp exact_unsigned exact_unsigned) (a.node, (a.class, a.index)) (b.node, (b.class, b.index)) h)
-
-equal_of : (o : Ordering) → is_eq o ≡ true → o ≡ Equal
-equal_of Less e = absurd cc
-equal_of Equal e = refl
-equal_of Greater e = absurd cc
-
--- names that a test finds the same are one
-pub one_name : (a b : Name) → name_eq a b ≡ true → a ≡ b
-one_name a b e = exact_names a b (equal_of (name_cmp a b) e)
-
+-- a name equals itself
 pub name_itself : (a : Name) → name_eq a a ≡ true
 name_itself a = (eq_by_cmp_equiv names_total).refl a
 
+-- two numbers are one or not
 pub same_or : (j k : ℕ) → (j ≡ k) ⊎ (j ≢ k)
 same_or j k = by_test (j == k) refl
   where
@@ -36,9 +23,11 @@ same_or j k = by_test (j == k) refl
     by_test true e = inl ((Decides-eqb j k).0 e)
     by_test false e = inr (λ h. absurd (grind (arith, e, (Decides-eqb j k).1 h)))
 
+-- equal numbers pass the test
 pub test_true : (j k : ℕ) → j ≡ k → (j == k) ≡ true
 test_true j k h = (Decides-eqb j k).1 h
 
+-- other numbers fail it
 pub test_false : (j k : ℕ) → j ≢ k → (j == k) ≡ false
 test_false j k ne = by_test (j == k) refl
   where
@@ -46,9 +35,11 @@ test_false j k ne = by_test (j == k) refl
     by_test true e = absurd (ne ((Decides-eqb j k).0 e))
     by_test false e = e
 
+-- values that are there are one where the options are
 pub some_is : {A : Type 0} {x y : A} → Some x ≡ Some y → x ≡ y
 some_is e = cc
 
+-- an option is not both empty and full
 pub not_both : {A : Type 0} {x : A} {o : Option A} → o ≡ None → o ≡ Some x → ⊥
 not_both e h = cc
 
@@ -58,6 +49,7 @@ set_same [] i v w e = absurd cc
 set_same (x ∷ xs) zero v w e = sym (some_is e)
 set_same (x ∷ xs) (suc i) v w e = set_same xs i v w e
 
+-- other items stay where one is set
 pub set_other : {A : Type 0} (vs : List A) (i j : ℕ) (v : A) → j ≢ i → slice_get (slice_set vs i v) j ≡ slice_get vs j
 set_other [] i j v ne = refl
 set_other (x ∷ xs) zero zero v ne = absurd (ne refl)

@@ -33,31 +33,39 @@ pub data IsMade (name : Name) (makes : List ℕ) (q : Name) : Type 0 where
   own : (k : ℕ) (ks : List ℕ) → makes ≡ k ∷ ks → q ≡ name → IsMade name makes q
   later : (i k : ℕ) → slice_get makes i ≡ Some k → q ≡ named name.node k (name.index + i) → IsMade name makes q
 
+-- made objects are among the demands
 abbrev pub AreMade : Name → List ℕ → List Change → Type 0
 AreMade name makes [] = Unit {0}
 AreMade name makes (Made q b ∷ hs) = IsMade name makes q × AreMade name makes hs
 AreMade name makes (h ∷ hs) = AreMade name makes hs
 
+-- of what is served
 abbrev pub MadeIf : Name → Option Deed → Type 0
 MadeIf name o = (d : Deed) → o ≡ Some d → AreMade name d.makes d.changes
 
+-- where nothing is
 empty : (name : Name) → MadeIf name None
 empty name d e = absurd cc
 
+-- where a deed is
 some : (name : Name) (d : Deed) → AreMade name d.makes d.changes → MadeIf name (Some d)
 some name d l e h = subst (λ (x : Deed). AreMade name x.makes x.changes) (some_is h) l
 
+-- by a test
 either : (name : Name) (b : Bool) (x y : Option Deed) → MadeIf name x → MadeIf name y → MadeIf name (if b then x else y)
 either name true x y l k = l
 either name false x y l k = k
 
+-- of a deed
 abbrev Fine : Name → Deed → Type 0
 Fine name d = AreMade name d.makes d.changes
 
+-- deeds by a test
 either_deed : (name : Name) (b : Bool) (x y : Deed) → Fine name x → Fine name y → Fine name (if b then x else y)
 either_deed name true x y l k = l
 either_deed name false x y l k = k
 
+-- one object
 one : (name : Name) (k : ℕ) → IsMade name (k ∷ []) name
 one name k = own k [] refl refl
 
@@ -68,23 +76,28 @@ abbrev Runs : ℕ → ℕ → List (Name × ObjectBody) → Type 0
 Runs node index [] = Unit {0}
 Runs node index (o ∷ os) = (o.0 ≡ named node o.0.class index) × Runs node (index + 1) os
 
+-- names that follow one another, in two lists
 runs-append : (node index n : ℕ) (xs ys : List (Name × ObjectBody)) → length xs ≡ n → Runs node index xs → Runs node (index + n) ys → Runs node index (xs ++ ys)
 runs-append node index n [] ys e a b = subst (λ (i : ℕ). Runs node i ys) (omega (arith, e)) b
 runs-append node index n (x ∷ xs) ys e a b = (a.0, runs-append node (index + 1) (length xs) xs ys refl a.1 (subst (λ (i : ℕ). Runs node i ys) (omega (arith, e)) b))
 
+-- how many arrays a level has
 length-arrays : (image : Program) (node c n index first s : ℕ) (below : List ℕ) → length (arrays image node c n index first (s ∷ below)) ≡ n
 length-arrays image node c zero index first s below = refl
 length-arrays image node c (suc n) index first s below = ap suc (length-arrays image node c n (index + 1) (first + s) s below)
 
+-- their names follow one another
 runs-arrays : (image : Program) (node c n index first s : ℕ) (below : List ℕ) → Runs node index (arrays image node c n index first (s ∷ below))
 runs-arrays image node c zero index first s below = tt
 runs-arrays image node c (suc n) index first s below = (refl, runs-arrays image node c n (index + 1) (first + s) s below)
 
+-- so do those of all levels
 runs-levels : (image : Program) (node c count index : ℕ) (sizes : List ℕ) → Runs node index (levels image node c count index sizes)
 runs-levels image node c count index [] = tt
 runs-levels image node c count index (s ∷ ss) = runs-append node index count (arrays image node c count index (index + count) (s ∷ ss)) _ (length-arrays image node c count index (index + count) s ss) (runs-arrays image node c count index (index + count) s ss)
     (runs-levels image node (part_class image c) (count * s) (index + count) ss)
 
+-- so do those of what is made
 runs-made : (image : Program) (name : Name) (c : ℕ) (sizes : List ℕ) → Runs name.node name.index (made_objects image name c sizes)
 runs-made image name c [] = (refl, tt)
 runs-made image name c (s ∷ ss) = runs-levels image name.node c 1 name.index (s ∷ ss)
@@ -97,6 +110,7 @@ made_on name makes i (o ∷ os) f r = (
   made_on name makes (i + 1) os (λ j k e. subst (λ (x : ℕ). slice_get makes x ≡ Some k) (omega arith) (f (suc j) k e)) (subst (λ (x : ℕ). Runs name.node x os) (omega arith) r.1),
 )
 
+-- so all of them join the demands
 made_all : (name : Name) (os : List (Name × ObjectBody)) → Runs name.node name.index os → AreMade name (map (λ o. o.0.class) os) (map (λ o. Made o.0 o.1) os)
 made_all name os r = made_on name (map (λ o. o.0.class) os) 0 os (λ j k e. subst (λ (x : ℕ). slice_get (map (λ o. o.0.class) os) x ≡ Some k) (omega arith) e) (subst (λ (x : ℕ). Runs name.node x os) (omega arith) r)
 
@@ -187,10 +201,12 @@ module _ (image : Program) (name : Name) where
   made_ends t None = tt
   made_ends t (Some e) = tt
 
+-- a lock that is taken again
 pub made_retakes : (name : Name) (t : ℕ) (n : Name) (k : ℕ) (o : Option MonitorState) (ws : List ℕ) → MadeIf name (retakes t n k o ws)
 made_retakes name t n k None ws = either name (has ws t) _ _ (empty name) (some name _ tt)
 made_retakes name t n k (Some o) ws = (empty name)
 
+-- the begin of an initialisation
 made_begins : (name : Name) (t c : ℕ) (s : Option ClassState) → MadeIf name (begins t c s)
 made_begins name t c (Some class_state.Untouched) = some name _ tt
 made_begins name t c (Some (class_state.Running u)) = λ d e. absurd cc
@@ -198,6 +214,7 @@ made_begins name t c (Some class_state.Done) = λ d e. absurd cc
 made_begins name t c (Some class_state.Failed) = λ d e. absurd cc
 made_begins name t c None = λ d e. absurd cc
 
+-- the end of one
 made_runner : (name : Name) (t : ℕ) (s : Option ClassState) (d : Deed) → AreMade name d.makes d.changes → MadeIf name (by_runner t s d)
 made_runner name t (Some (class_state.Running u)) d l = either name (u == t) _ _ (some name _ l) (λ d e. absurd cc)
 made_runner name t (Some class_state.Untouched) d l = λ d e. absurd cc
@@ -205,6 +222,7 @@ made_runner name t (Some class_state.Done) d l = λ d e. absurd cc
 made_runner name t (Some class_state.Failed) d l = λ d e. absurd cc
 made_runner name t None d l = λ d e. absurd cc
 
+-- every request
 pub made_served : (image : Program) (t : ℕ) (m : State) (c : Choice) (r : Request) → MadeIf c.name (serve image t c r (cell m (key_of r)))
 unfolding serve
 made_served image t m c (Get n i) = made_get image c.name n i _
@@ -231,23 +249,28 @@ made_served image t m c (Print us) = some c.name _ tt
 
 -- ---- a name that fits is new
 
+-- the first of two tests that pass
 first : (a b : Bool) → (a && b) ≡ true → a ≡ true
 first true b e = refl
 first false b e = e
 
+-- and the second
 second : (a b : Bool) → (a && b) ≡ true → b ≡ true
 second true b e = e
 second false b e = absurd cc
 
+-- what is tested empty is
 nothing_there : (o : Option ObjectBody) → is_none o ≡ true → o ≡ None
 nothing_there None e = refl
 nothing_there (Some b) e = absurd cc
 
+-- the names that were tested new are
 new_at : (heap : Heap) (node index : ℕ) (cs : List ℕ) (i k : ℕ) → all_new heap node index cs ≡ true → slice_get cs i ≡ Some k → body_at heap (named node k (index + i)) ≡ None
 new_at heap node index [] i k e g = absurd cc
 new_at heap node index (c ∷ cs) zero k e g = ap (body_at heap) (ap (λ (x : ℕ). named node x (index + 0)) (sym (some_is g)) ∙ ap (λ (x : ℕ). named node c x) (omega arith)) ∙ nothing_there (body_at heap (named node c index)) (first _ _ e)
 new_at heap node index (c ∷ cs) (suc i) k e g = ap (λ (x : ℕ). body_at heap (named node k x)) (omega arith) ∙ new_at heap node (index + 1) cs i k (second _ _ e) g
 
+-- so what is made is new
 pub made_is_new : (heap : Heap) (name : Name) (makes : List ℕ) (q : Name) → name_fits heap name makes ≡ true → IsMade name makes q → body_at heap q ≡ None
 made_is_new heap name [] q f (own k ks e h) = absurd cc
 made_is_new heap name [] q f (later i k e h) = absurd cc

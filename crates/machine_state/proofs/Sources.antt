@@ -24,18 +24,22 @@ use Rattle.machine_state.specs.Frames.{called}
 use Rattle.machine_state.proofs.NameTests.{some_is}
 use Rattle.machine_state.specs.BootClasses.{no_class_found}
 
+-- a deed is none, a served request, or a lock that is taken again
 pub data Source (image : Program) (m : State) (c : Choice) : Deed → Type 0 where
   idle : Source image m c (quiet None)
   asks : (r : Request) (d : Deed) → serve image c.thread c r (cell m (key_of r)) ≡ Some d → Source image m c d
   wakes : (n : Name) (k : ℕ) (d : Deed) → retakes c.thread n k (owner_at m.monitors n) (waiters_of n m.waiting) ≡ Some d → Source image m c d
 
+-- what is taken has a source
 abbrev pub HasSource : Program → State → Choice → Option Taken → Type 0
 HasSource image m c o = (k : Taken) → o ≡ Some k → Source image m c k.deed
 
+-- a step of the thread alone
 of_alone : (image : Program) (m : State) (c : Choice) (o : Option Stand) → HasSource image m c (alone o)
 of_alone image m c None k h = absurd cc
 of_alone image m c (Some s) k h = subst (λ (y : Taken). Source image m c y.deed) (some_is h) idle
 
+-- a served request
 of_served : (image : Program) (m : State) (c : Choice) (mode : Mode) (ls : List Level) (r : Request) → HasSource image m c (served image m c mode ls r)
 unfolding served
 of_served image m c mode ls r k h = by_deed (serve image c.thread c r (cell m (key_of r))) refl h
@@ -44,6 +48,7 @@ of_served image m c mode ls r k h = by_deed (serve image c.thread c r (cell m (k
     by_deed None e h = absurd cc
     by_deed (Some d) e h = subst (λ (y : Taken). Source image m c y.deed) (some_is h) (asks r d e)
 
+-- what comes next
 of_performed : (image : Program) (m : State) (c : Choice) (mode : Mode) (ls : List Level) (n : Next) → HasSource image m c (performed image m c mode ls n)
 of_performed image m c mode ls (Alone f) = of_alone image m c (Some (Running, with_top f ls))
 of_performed image m c mode ls (Throws e) = of_alone image m c (Some (Raising e, ls))
@@ -54,6 +59,7 @@ of_performed image m c mode ls (Needs r) = of_served image m c mode ls r
 of_performed image m c mode ls (Wants n) = λ k h. absurd cc
 of_performed image m c mode ls Stuck = λ k h. absurd cc
 
+-- after a class was asked for
 of_asked : (image : Program) (m : State) (c : Choice) (mode : Mode) (ls : List Level) (n : Next) (q : ℕ) (o : Option ClassState) → HasSource image m c (asked image m c mode ls n q o)
 of_asked image m c mode ls n q None = λ k h. absurd cc
 of_asked image m c mode ls n q (Some class_state.Done) = of_performed image m c mode ls n
@@ -65,6 +71,7 @@ of_asked image m c mode ls n q (Some (class_state.Running u)) = by_test (u == c.
 of_asked image m c mode ls n q (Some class_state.Untouched) = of_served image m c mode ls (Begin q)
 of_asked image m c mode ls n q (Some class_state.Failed) = of_served image m c mode ls (Fault no_class_found)
 
+-- a plan
 of_planned : (image : Program) (m : State) (c : Choice) (mode : Mode) (ls : List Level) (p : Plan) → HasSource image m c (planned image m c mode ls p)
 of_planned image m c mode ls p = by_ask p.asks
   where
@@ -72,6 +79,7 @@ of_planned image m c mode ls p = by_ask p.asks
     by_ask None = of_performed image m c mode ls p.next
     by_ask (Some q) = of_asked image m c mode ls p.next q (slice_get m.classes q)
 
+-- a lock that is taken again
 of_retaken : (image : Program) (m : State) (c : Choice) (ls : List Level) (n : Name) (k : ℕ) → HasSource image m c (retaken m c ls n k)
 of_retaken image m c ls n k = by_deed (retakes c.thread n k (owner_at m.monitors n) (waiters_of n m.waiting)) refl
   where
@@ -79,6 +87,7 @@ of_retaken image m c ls n k = by_deed (retakes c.thread n k (owner_at m.monitors
     by_deed None e j h = absurd cc
     by_deed (Some d) e j h = subst (λ (y : Taken). Source image m c y.deed) (some_is h) (wakes n k d e)
 
+-- what is granted
 of_granted : (image : Program) (m : State) (c : Choice) (th : ThreadState) (o : Option Taken) → HasSource image m c o → HasSource image m c (granted m c o)
 of_granted image m c th None s = λ k h. absurd cc
 of_granted image m c th (Some k) s = by_test (allowed m c k)
@@ -87,6 +96,7 @@ of_granted image m c th (Some k) s = by_test (allowed m c k)
     by_test true = s
     by_test false = λ j h. absurd cc
 
+-- what is taken
 pub of_taken : (image : Program) (m : State) (c : Choice) (th : ThreadState) → HasSource image m c (taken_by image m c th)
 unfolding taken_by attempt
 of_taken image m c th = of_granted image m c th (by_mode image m c th th.mode) (of_mode th.mode)

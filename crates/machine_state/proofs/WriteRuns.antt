@@ -29,6 +29,7 @@ source-held image m c d idle = tt
 source-held image m c d (wakes n k d1 e) = (local_retakes m.heap c.name n c.thread k _ _ d1 e).reads
 source-held image m c d (asks r d1 e) = (local_served image c.thread m c r d1 e).reads
 
+-- the law holds of what was told, and the heap agrees with it
 pub record Right (m : State) (told : List Told) : Type 0 where
   pub law : LastWrite told
   pub agrees : Agrees m.heap told
@@ -41,6 +42,7 @@ moved-right image m c th k told e r =
     let both = deed-right (Some c.thread) k.deed (record m { threads = slice_set m.threads c.thread (after th k.stand) }) told (source-held image m c k.deed (of_taken image m c th k e)) (record { last = r.agrees.last }) r.law in
     record { law = both.0; agrees = both.1 }
 
+-- a step keeps both
 pub step-right : (image : Program) (m l : State) (c : Choice) (told : List Told) → step image m c ≡ Some l → Right m told → Right l (onto (step_events image m c) told)
 unfolding step step_events
 step-right image m l c told e r = by_thread (slice_get m.threads c.thread) e
@@ -54,6 +56,7 @@ step-right image m l c told e r = by_thread (slice_get m.threads c.thread) e
     by_thread None e = absurd cc
     by_thread (Some th) e = by_taken th (taken_by image m c th) refl e
 
+-- so does a run
 run-right : (image : Program) (m : State) (told : List Told) (order : List Choice) → Right m told → LastWrite (run_events image m told order)
 unfolding run_events
 run-right image m told [] r = r.law
@@ -69,6 +72,7 @@ premade-right : (os : List (Name × ObjectBody)) (heap : Heap) (told : List Told
 premade-right [] heap told l a = (l, a)
 premade-right (o ∷ os) heap told l a = premade-right os (put name_cmp o.0 o.1 heap) (onto (told_by None (body_writes o.0 o.1)) told) (silent None (body_writes o.0 o.1) told (no_read-body o.0 o.1) l) (agrees-made None heap o.0 o.1 told a)
 
+-- the law
 pub last-write : LastWriteLaw
 unfolding start start_events
 last-write image args order =

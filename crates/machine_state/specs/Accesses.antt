@@ -39,4 +39,6 @@ LastWrite (e ∷ es) = IsLast e.event es × LastWrite es
 
 -- in every run of every program
 abbrev pub LastWriteLaw : Type 0
-LastWriteLaw = (p : Program) (args : List (List ℕ)) (order : List Choice) → LastWrite (run_events p (start p args) (start_events p args) order)
+LastWriteLaw =
+    (p : Program) (args : List (List ℕ)) (order : List Choice)
+    → LastWrite (run_events p (start p args) (start_events p args) order)

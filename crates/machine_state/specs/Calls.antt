@@ -52,8 +52,8 @@ abbrev pub with_receiver : List Value → (Name → Next) → Next
 with_receiver (Ref n ∷ vs) f = f n
 with_receiver _ f = Stuck
 
--- `invokespecial` runs the method itself: an initialiser, a private method, or one that no superclass
--- of the current class declares
+-- `invokespecial` runs the method itself: an initialiser, a private method, or one that no
+-- superclass of the current class declares
 abbrev pub is_special_direct : Program → ℕ → ℕ → Bool
 is_special_direct p current m = is_initialiser p m || is_direct p current m
 
@@ -61,16 +61,19 @@ is_special_direct p current m = is_initialiser p m || is_direct p current m
 abbrev pub special_call : Program → Who → Frame → ℕ → List Value → Next
 special_call p who f m vs =
     if is_special_direct p (owner_of p f.method) m then runs_method p who f m vs
-    else runs_selected p who f vs (from NoBody (λ c. select_of p.classes p.methods c m false) (super_of p (owner_of p f.method)))
+    else runs_selected p who f vs
+    (from NoBody (λ c. select_of p.classes p.methods c m false) (super_of p (owner_of p f.method)))
 
 -- the others search from the receiver's class
 abbrev pub selected_call : Program → Who → Frame → ℕ → ℕ → List Value → Name → Next
-selected_call p who f o m vs n = runs_selected p who f vs (select_of p.classes p.methods n.class m (o == code.INVOKEINTERFACE))
+selected_call p who f o m vs n =
+    runs_selected p who f vs (select_of p.classes p.methods n.class m (o == code.INVOKEINTERFACE))
 
 -- a call on a receiver
 abbrev pub receiver_call : Program → Who → Frame → ℕ → ℕ → List Value → Next
 receiver_call p who f o m vs =
-    with_receiver vs (λ n. if o == code.INVOKESPECIAL then special_call p who f m vs else selected_call p who f o m vs n)
+    with_receiver vs (λ n. if o == code.INVOKESPECIAL then special_call p who f m vs
+    else selected_call p who f o m vs n)
 
 -- `invokestatic` asks for the class of its method
 abbrev pub invokes : Program → Who → Frame → ℕ → ℕ → List Value → Plan

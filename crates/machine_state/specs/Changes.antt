@@ -40,8 +40,8 @@ altered heap n f = from heap (λ b. replace name_cmp n (f b) heap) (body_at heap
 -- ---- changes
 
 -- An object is made; one of its places takes a value; a lock is owned, or free; a thread falls
--- asleep on a lock, one that slept there may retake it, or all may; a class is in a state; a thread is
--- started on an object; an exception isn't caught; bytes are written.
+-- asleep on a lock, one that slept there may retake it, or all may; a class is in a state; a thread
+-- is started on an object; an exception isn't caught; bytes are written.
 pub data Change : Type 0 where
   Made : Name → ObjectBody → Change
   SetsField : Name → ℕ → Value → Change

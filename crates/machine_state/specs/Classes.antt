@@ -31,7 +31,9 @@ clinit_of p c = from None (λ k. k.clinit) (class_at p c)
 -- the static at a place of a class is final and has a constant
 abbrev pub is_constant : Program → ℕ → ℕ → Bool
 is_constant p c place =
-    list_any (λ f. is_static f.flags && (f.place == place && (is_final f.flags && is_some f.constant))) (fields_of p c)
+    list_any
+    (λ f. is_static f.flags && (f.place == place && (is_final f.flags && is_some f.constant)))
+    (fields_of p c)
 
 -- ---- arrays
 
@@ -59,7 +61,9 @@ array_class_of p k = array_class (λ a. a.dims == 1 && kind_number a.elem == k) 
 
 -- what an element of a new array of the class holds
 abbrev pub element_zero : Program → ℕ → Value
-element_zero p c = from Null (λ a. if a.dims == 1 then zero_of (record { dims = 0; elem = a.elem }) else Null) (array_at p c)
+element_zero p c =
+    from Null (λ a. if a.dims == 1 then zero_of (record { dims = 0; elem = a.elem }) else Null)
+    (array_at p c)
 
 -- ---- methods
 
@@ -73,7 +77,9 @@ is_without_receiver p m = from false (λ i. not (is_instance i)) (method_at p m)
 
 -- `run` of `java/lang/Thread`
 abbrev pub thread_run : Program → ℕ
-thread_run p = from 0 (λ m. m) (find (λ m. same_text (name_of p m) (codes "run")) (methods_of p.classes thread))
+thread_run p =
+    from 0 (λ m. m)
+    (find (λ m. same_text (name_of p m) (codes "run")) (methods_of p.classes thread))
 
 -- ---- targets
 

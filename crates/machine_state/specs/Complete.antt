@@ -45,6 +45,7 @@ abbrev pub entered_by : Program → Frame → List Level → Phase → List Leve
 entered_by p f ls phase.Lock = Code (record f { phase = phase.Body }) ∷ ls
 entered_by p f ls _ = Code (answered p None f) ∷ ls
 
+-- so are the levels
 abbrev pub entered : Program → List Level → List Level
 entered p (Code f ∷ ls) = entered_by p f ls f.phase
 entered p ls = ls
@@ -54,10 +55,12 @@ abbrev pub left_by_op : Program → Frame → Op → Frame
 left_by_op p f (op.Return o) = record f { phase = phase.Unlock (returned o f.stack.values) }
 left_by_op p f _ = answered p None f
 
+-- by the instruction in its place
 abbrev pub left_by : Program → Frame → Option Placed → Frame
 left_by p f None = f
 left_by p f (Some i) = left_by_op p f i.op
 
+-- so are the levels
 abbrev pub left : Program → List Level → List Level
 left p (Code f ∷ ls) = Code (left_by p f (instruction_at p f.method f.at)) ∷ ls
 left p ls = ls
@@ -96,6 +99,7 @@ abbrev pub slept : Program → Option Name → ℕ → Mode → List Level → S
 slept p (Some n) k mode ls = (Waiting n k, answer_top p None ls)
 slept p None k mode ls = (mode, ls)
 
+-- the thread after an answer
 unfoldable pub complete : Program → Request → Answer → Mode → List Level → Stand
 complete p r (Gives v) mode ls = given p r v mode ls
 complete p r (Raises e) mode ls = raised_by r e ls

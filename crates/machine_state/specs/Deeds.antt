@@ -40,7 +40,8 @@ events_of d = reads_of d.reads ++ (writes d.changes ++ map Locks d.locks)
 
 -- nothing happens but the answer
 abbrev pub quiet : Option Value → Deed
-quiet v = record { makes = []; waiters = []; reads = []; locks = []; changes = []; answer = Gives v }
+quiet v =
+    record { makes = []; waiters = []; reads = []; locks = []; changes = []; answer = Gives v }
 
 -- a place is read
 abbrev pub reading : Place → Held → Option Value → Deed
@@ -52,7 +53,9 @@ changing cs v = record (quiet v) { changes = cs }
 
 -- something is done with a lock
 abbrev pub locking : LockEvent → List Change → Deed
-locking e cs = record { makes = []; waiters = []; reads = []; locks = e ∷ []; changes = cs; answer = Gives None }
+locking e cs =
+    record
+    { makes = []; waiters = []; reads = []; locks = e ∷ []; changes = cs; answer = Gives None }
 
 -- an exception of a class is made and raised, before further changes
 abbrev pub faulted : Program → Name → ℕ → List Change → Deed

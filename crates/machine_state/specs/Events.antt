@@ -54,6 +54,7 @@ pub data LockEvent : Type 0 where
   NotifiesAll : Name → LockEvent
   Retakes : Name → LockEvent
 
+-- a place is read, or written, or something is done with a lock
 pub data Event : Type 0 where
   Reads : Place → Held → Event
   Writes : Place → Held → Event

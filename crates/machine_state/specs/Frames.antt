@@ -1,5 +1,5 @@
 -- Frames for calls (JVMS2 3.6).
-use Rattle.std.specs.Prelude.{ℕ, zero, suc, ◌+◌, pos, true, if◌then◌else◌, List, [], ◌∷◌, Option, Some, None}
+use Rattle.std.specs.Prelude.{ℕ, zero, suc, ◌+◌, pos, true, if◌then◌else◌, not, List, [], ◌∷◌, Option, Some, None}
 use Rattle.std.specs.List.{flat_map}
 use Rattle.jvm_base.specs.Words.{from}
 use Rattle.jvm_base.specs.declared.name.Name.{Name}
@@ -44,7 +44,9 @@ receiver _ = None
 
 -- what a synchronized method locks: its receiver, or the holder of its class (JVMS2 2.10.3)
 abbrev pub lock_for : Program → ℕ → List Value → Option Name
-lock_for p m vs = if is_synchronized (flags_of p m) then (if is_without_receiver p m then Some (holder (owner_of p m)) else receiver vs) else None
+lock_for p m vs =
+    if not (is_synchronized (flags_of p m)) then None
+    else (if is_without_receiver p m then Some (holder (owner_of p m)) else receiver vs)
 
 -- a frame begins with its lock, if it has one
 abbrev pub first_phase : Option Name → Phase
@@ -69,4 +71,5 @@ noted ls = ls
 
 -- a thread after a call, where the method has code
 abbrev pub called : Program → ℕ → List Value → List Level → Option Stand
-called p m vs ls = from None (λ c. Some (Running, Code (new_frame p m vs c) ∷ noted ls)) (code_of p m)
+called p m vs ls =
+    from None (λ c. Some (Running, Code (new_frame p m vs c) ∷ noted ls)) (code_of p m)

@@ -1,5 +1,5 @@
--- What an instruction plans: what the table of moves says, and what those ask that aren't of their frame
--- alone (JVMS2 6).
+-- What an instruction plans: what the table of moves says, and what those ask that aren't of their
+-- frame alone (JVMS2 6).
 use Rattle.std.specs.Prelude.{ℕ, ℤ, pos, ◌==◌, false, if◌then◌else◌, unsigned_abs, List, [], ◌∷◌, map, Option, Some, None}
 use Rattle.jvm_base.specs.declared.desc.Desc.{Desc}
 use Rattle.jvm_base.specs.declared.desc.Elem.{Elem}
@@ -101,18 +101,26 @@ makes_array c n vs = Needs (Make c (map size_of (call_values n vs)))
 abbrev pub asked_class : Program → ℕ → ℕ → Option ℕ
 asked_class p c place = if is_constant p c place then None else Some c
 
+-- a read of a static, or a write
+abbrev pub static_next : ℕ → Desc → Name → ℕ → List Value → Next
+static_next o d n place vs =
+    if o == code.GETSTATIC then Needs (Get n place) else puts_static d n place vs
+
+-- an instruction on a static
 abbrev pub static_plan : Program → ℕ → Desc → Option Target → List Value → Plan
 static_plan p o d (Some (target.Field c place fixed)) vs = record {
   asks = asked_class p c place;
-  next = if o == code.GETSTATIC then Needs (Get (holder c) place) else puts_static d (holder c) place vs;
+  next = static_next o d (holder c) place vs;
 }
 static_plan p o d _ vs = plain Stuck
 
+-- an instruction on a field of an object
 abbrev pub field_next : ℕ → Desc → Option Target → List Value → Next
-field_next o d (Some (target.Field c place fixed)) vs = if o == code.GETFIELD then gets place vs else puts d place vs
+field_next o d (Some (target.Field c place fixed)) vs =
+    if o == code.GETFIELD then gets place vs else puts d place vs
 field_next o d _ vs = Stuck
 
--- `new` asks for its class
+-- by instruction; `new` asks for its class
 abbrev pub shared_plan : Program → Op → Option Target → List Value → Plan
 shared_plan p (op.ArrayLoad o) t vs = plain (loads vs)
 shared_plan p (op.ArrayStore o) t vs = plain (stores o vs)
@@ -123,11 +131,14 @@ shared_plan p (op.NewArray k) t vs = plain (makes_array (array_class_of p k) 1 v
 shared_plan p (op.AnewArray i) t vs = plain (makes_array (array_class_over p (class_in t)) 1 vs)
 shared_plan p (op.MultiNewArray i n) t vs = plain (makes_array (class_in t) n vs)
 shared_plan p op.ArrayLength t vs = plain (of_reference (λ n. Needs (Len n)) vs)
-shared_plan p (op.Monitor o) t vs = plain (of_reference (λ n. Needs (if o == code.MONITORENTER then Enter n else Exit n false)) vs)
+shared_plan p (op.Monitor o) t vs =
+    plain (of_reference (λ n. Needs (if o == code.MONITORENTER then Enter n else Exit n false)) vs)
 shared_plan p o t vs = plain Stuck
 
+-- a call
 abbrev pub call_plan : Program → Who → Frame → Op → Option Target → List Value → Plan
-call_plan p who f (op.Invoke o i d) t vs = invokes p who f o (method_in t) (call_values (call_count o d) vs)
+call_plan p who f (op.Invoke o i d) t vs =
+    invokes p who f o (method_in t) (call_values (call_count o d) vs)
 call_plan p who f o t vs = plain Stuck
 
 -- a return gives its value; that of a synchronized method leaves its lock first

@@ -44,7 +44,8 @@ line_end = 10 ∷ []
 abbrev pub char_at : Program → Frame → List ℕ → ℤ → Next
 char_at p f us i =
     if int_lt i (pos 0) then fault string_index
-    else from (fault string_index) (λ u. answers p f (Some (Int (pos u)))) (slice_get us (unsigned_abs i))
+    else from (fault string_index) (λ u. answers p f (Some (Int (pos u))))
+    (slice_get us (unsigned_abs i))
 
 -- a boolean as an int
 abbrev pub bool_value : Bool → Value
@@ -53,7 +54,8 @@ bool_value b = Int (pos (if b then 1 else 0))
 -- whether an object is a String of the same text
 abbrev pub same_as : Program → Who → Frame → List ℕ → Value → Next
 same_as p who f us (Ref n) =
-    if n.class == string then with_text who n (λ ws. answers p f (Some (bool_value (same_text us ws))))
+    if n.class == string
+    then with_text who n (λ ws. answers p f (Some (bool_value (same_text us ws))))
     else answers p f (Some (bool_value false))
 same_as p who f us v = answers p f (Some (bool_value false))
 
@@ -76,7 +78,8 @@ abbrev pub intrinsic_call : Program → Who → ℕ → Frame → Intrinsic → 
 intrinsic_call p who k f WaitOn (Ref o ∷ vs) = Needs (Wait o)
 intrinsic_call p who k f NotifyOne (Ref o ∷ vs) = Needs (Notify o)
 intrinsic_call p who k f NotifyAllOf (Ref o ∷ vs) = Needs (NotifyAll o)
-intrinsic_call p who k f TextLength (Ref o ∷ vs) = with_text who o (λ us. answers p f (Some (count_value (length us))))
+intrinsic_call p who k f TextLength (Ref o ∷ vs) =
+    with_text who o (λ us. answers p f (Some (count_value (length us))))
 intrinsic_call p who k f CharAt (Ref o ∷ Int i ∷ vs) = with_text who o (λ us. char_at p f us i)
 intrinsic_call p who k f SameText (Ref o ∷ v ∷ vs) = with_text who o (λ us. same_as p who f us v)
 intrinsic_call p who k f Concat (Ref o ∷ v ∷ vs) = with_text who o (λ us. joined who us v)
@@ -84,11 +87,14 @@ intrinsic_call p who k f ValueOf (Int a ∷ vs) = Needs (MakeText (signed_decima
 intrinsic_call p who k f ValueOf (Long a ∷ vs) = Needs (MakeText (signed_decimal a))
 intrinsic_call p who k f NewBuffer (Ref o ∷ vs) = Needs (Buffer o k [])
 intrinsic_call p who k f BufferOf (Ref o ∷ v ∷ vs) = filled who k o v
-intrinsic_call p who k f (Append shown) (Ref o ∷ v ∷ vs) = with_shown who shown v (λ us. Needs (Buffer o k us))
+intrinsic_call p who k f (Append shown) (Ref o ∷ v ∷ vs) =
+    with_shown who shown v (λ us. Needs (Buffer o k us))
 intrinsic_call p who k f BufferText (Ref o ∷ vs) = Needs (Buffer o k [])
 intrinsic_call p who k f BufferLength (Ref o ∷ vs) = Needs (Buffer o k [])
-intrinsic_call p who k f (Prints shown) (Ref o ∷ v ∷ vs) = with_shown who shown v (λ us. Needs (Print us))
-intrinsic_call p who k f (PrintsLine shown) (Ref o ∷ v ∷ vs) = with_shown who shown v (λ us. Needs (Print (us ++ line_end)))
+intrinsic_call p who k f (Prints shown) (Ref o ∷ v ∷ vs) =
+    with_shown who shown v (λ us. Needs (Print us))
+intrinsic_call p who k f (PrintsLine shown) (Ref o ∷ v ∷ vs) =
+    with_shown who shown v (λ us. Needs (Print (us ++ line_end)))
 intrinsic_call p who k f PrintsEnd (Ref o ∷ vs) = Needs (Print line_end)
 intrinsic_call p who k f StartThread (Ref o ∷ vs) = Needs (Start o)
 intrinsic_call p who k f JoinThread (Ref o ∷ vs) = Needs (Join o)

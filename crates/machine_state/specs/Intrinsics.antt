@@ -37,9 +37,12 @@ abbrev pub intrinsics : List Intrinsic
 intrinsics =
     WaitOn ∷ NotifyOne ∷ NotifyAllOf
     ∷ TextLength ∷ CharAt ∷ SameText ∷ Concat ∷ ValueOf ∷ ValueOf
-    ∷ NewBuffer ∷ BufferOf ∷ Append Number ∷ Append Number ∷ Append Letter ∷ Append Truth ∷ Append Words ∷ BufferText ∷ BufferLength
+    ∷ NewBuffer ∷ BufferOf
+    ∷ Append Number ∷ Append Number ∷ Append Letter ∷ Append Truth ∷ Append Words
+    ∷ BufferText ∷ BufferLength
     ∷ Prints Number ∷ Prints Number ∷ Prints Letter ∷ Prints Truth ∷ Prints Words
-    ∷ PrintsLine Number ∷ PrintsLine Number ∷ PrintsLine Letter ∷ PrintsLine Truth ∷ PrintsLine Words ∷ PrintsEnd
+    ∷ PrintsLine Number ∷ PrintsLine Number ∷ PrintsLine Letter ∷ PrintsLine Truth
+    ∷ PrintsLine Words ∷ PrintsEnd
     ∷ StartThread ∷ JoinThread ∷ CurrentThread ∷ Sleep ∷ Yield ∷ []
 
 -- the intrinsic of a number

@@ -1,4 +1,5 @@
--- Locks are used as JVMS2 8 allows: said of the list of events alone, of which the last stands first.
+-- Locks are used as JVMS2 8 allows: said of the list of events alone, of which the last stands
+-- first.
 use Rattle.std.specs.Prelude.{◌≡◌, ◌≢◌, ◌<◌, ℕ, ◌+◌, ◌-◌, Bool, true, false, ◌==◌, if◌then◌else◌, List, [], ◌∷◌, Option, Some, None}
 use Rattle.jvm_base.specs.Names.{name_eq}
 use Rattle.jvm_base.specs.declared.name.Name.{Name}
@@ -70,7 +71,8 @@ abbrev pub OthersFree : (ℕ → Name → Standing) → ℕ → Name → Type 0
 OthersFree st t n = (u : ℕ) → u ≢ t → (st u n).held ≡ 0
 
 -- A lock is entered or taken again where no other thread holds it, and taken again by a thread that
--- woke. Who leaves it, waits or notifies holds it. A notify wakes a sleeper, or nobody where none sleeps.
+-- woke. Who leaves it, waits or notifies holds it. A notify wakes a sleeper, or nobody where none
+-- sleeps.
 abbrev pub Allowed : (ℕ → Name → Standing) → ℕ → LockEvent → Type 0
 Allowed st t (Enters n) = OthersFree st t n
 Allowed st t (Leaves n) = 0 < (st t n).held
@@ -93,4 +95,6 @@ LegalLocks (e ∷ es) = IsLegal (standing es) e.thread e.event × LegalLocks es
 
 -- in every run of every program
 abbrev pub LegalLocksLaw : Type 0
-LegalLocksLaw = (p : Program) (args : List (List ℕ)) (order : List Choice) → LegalLocks (run_events p (start p args) (start_events p args) order)
+LegalLocksLaw =
+    (p : Program) (args : List (List ℕ)) (order : List Choice)
+    → LegalLocks (run_events p (start p args) (start_events p args) order)

@@ -14,7 +14,8 @@ owned t k = record { owner = t; count = k }
 -- a lock is entered where nobody or the thread itself owns it
 abbrev pub enter : ℕ → Name → Option MonitorState → Option Deed
 enter t n None = Some (locking (Enters n) (Owned n (owned t 1) ∷ []))
-enter t n (Some o) = if o.owner == t then Some (locking (Enters n) (Owned n (owned t (o.count + 1)) ∷ [])) else None
+enter t n (Some o) =
+    if o.owner == t then Some (locking (Enters n) (Owned n (owned t (o.count + 1)) ∷ [])) else None
 
 -- what the owner does, or what comes of a thread that isn't
 abbrev pub by_owner : ℕ → Option MonitorState → Deed → (MonitorState → Deed) → Deed
@@ -36,7 +37,8 @@ sleeps t n o = record (locking (Waits n) (Freed n ∷ Sleeps n t ∷ [])) { answ
 -- the waiter that is picked wakes, if there is one
 abbrev pub notifies : Name → ℕ → List ℕ → Deed
 notifies n pick [] = locking (Notifies n None) []
-notifies n pick (w ∷ ws) = record (locking (Notifies n (Some pick)) (Moved n pick ∷ [])) { waiters = w ∷ ws }
+notifies n pick (w ∷ ws) =
+    record (locking (Notifies n (Some pick)) (Moved n pick ∷ [])) { waiters = w ∷ ws }
 
 -- all waiters wake
 abbrev pub notifies_all : Name → Deed
@@ -44,5 +46,6 @@ notifies_all n = locking (NotifiesAll n) (MovedAll n ∷ [])
 
 -- a thread that woke takes its lock again, as often as it held it, where nobody owns it
 abbrev pub retakes : ℕ → Name → ℕ → Option MonitorState → List ℕ → Option Deed
-retakes t n k None ws = if has ws t then None else Some (locking (Retakes n) (Owned n (owned t k) ∷ []))
+retakes t n k None ws =
+    if has ws t then None else Some (locking (Retakes n) (Owned n (owned t k) ∷ []))
 retakes t n k (Some o) ws = None

@@ -1,5 +1,5 @@
--- What `new` and its like make: an object, or arrays of arrays, the outermost first and level by level,
--- under names whose indices follow one another (JVMS2 6, multianewarray).
+-- What `new` and its like make: an object, or arrays of arrays, the outermost first and level by
+-- level, under names whose indices follow one another (JVMS2 6, multianewarray).
 use Rattle.std.specs.Prelude.{ℕ, zero, suc, ◌+◌, ◌*◌, ◌==◌, ◌||◌, if◌then◌else◌, List, [], ◌∷◌, ◌++◌, map, replicate, Some}
 use Rattle.jvm_base.specs.Names.{named}
 use Rattle.jvm_base.specs.Words.{from}
@@ -35,12 +35,16 @@ elements p node c first size (s ∷ ss) = references node (part_class p c) first
 abbrev pub arrays : Program → ℕ → ℕ → ℕ → ℕ → ℕ → List ℕ → List (Name × ObjectBody)
 arrays p node c zero index first sizes = []
 arrays p node c (suc n) index first [] = []
-arrays p node c (suc n) index first (s ∷ below) = (named node c index, Array (elements p node c first s below)) ∷ arrays p node c n (index + 1) (first + s) (s ∷ below)
+arrays p node c (suc n) index first (s ∷ below) =
+    (named node c index, Array (elements p node c first s below))
+    ∷ arrays p node c n (index + 1) (first + s) (s ∷ below)
 
 -- the arrays of all levels, of which the first has so many
 abbrev pub levels : Program → ℕ → ℕ → ℕ → ℕ → List ℕ → List (Name × ObjectBody)
 levels p node c count index [] = []
-levels p node c count index (s ∷ ss) = arrays p node c count index (index + count) (s ∷ ss) ++ levels p node (part_class p c) (count * s) (index + count) ss
+levels p node c count index (s ∷ ss) =
+    arrays p node c count index (index + count) (s ∷ ss)
+    ++ levels p node (part_class p c) (count * s) (index + count) ss
 
 -- a new object that is no array
 abbrev pub new_body : Program → ℕ → ObjectBody

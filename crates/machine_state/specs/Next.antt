@@ -9,9 +9,9 @@ use Rattle.program_image.specs.Words.{instruction_at}
 use Rattle.frame_ops.specs.Stepping.{placed_answered}
 use Rattle.machine_state.specs.Requests.{Request, Fault}
 
--- The top frame goes on, throws, calls, leaves with a value or is dropped by an exception; or something
--- is asked of a part that threads share. Wants is the want of a text that isn't known here; Stuck comes
--- of no verified program.
+-- The top frame goes on, throws, calls, leaves with a value or is dropped by an exception; or
+-- something is asked of a part that threads share. Wants is the want of a text that isn't known
+-- here; Stuck comes of no verified program.
 pub data Next : Type 0 where
   Alone : Frame → Next
   Throws : Name → Next

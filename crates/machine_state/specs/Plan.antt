@@ -31,7 +31,9 @@ use Rattle.machine_state.specs.Requests.{Enter, Exit, InitDone, InitFail, Finish
 
 -- in the code of a method, the instruction
 abbrev pub body_plan : Program → Who → Frame → Plan
-body_plan p who f = from (plain Stuck) (λ i. instruction_plan p who f i (target_of p f.method f.at)) (instruction_at p f.method f.at)
+body_plan p who f =
+    from (plain Stuck) (λ i. instruction_plan p who f i (target_of p f.method f.at))
+    (instruction_at p f.method f.at)
 
 -- a synchronized method enters its lock first; one whose lock was left gives its value
 abbrev pub frame_plan : Program → Who → Frame → Phase → Option Name → Plan
@@ -40,10 +42,13 @@ frame_plan p who f phase.Lock None = plain Stuck
 frame_plan p who f phase.Body lock = body_plan p who f
 frame_plan p who f (phase.Unlock v) lock = plain (Leaves v)
 
--- a class asks for its superclass, calls its initialiser, where it has one, and is done (JVMS2 2.17.5)
+-- a class asks for its superclass, calls its initialiser, where it has one, and is done (JVMS2
+-- 2.17.5)
 abbrev pub init_plan : Program → Who → ℕ → Bool → Plan
 init_plan p who c true = plain (Needs (InitDone c))
-init_plan p who c false = record { asks = super_of p c; next = from (Needs (InitDone c)) (λ m. calls who m []) (clinit_of p c) }
+init_plan p who c false =
+    record
+    { asks = super_of p c; next = from (Needs (InitDone c)) (λ m. calls who m []) (clinit_of p c) }
 
 -- a thread without levels ends
 abbrev pub running_plan : Program → Who → List Level → Plan
@@ -74,8 +79,10 @@ handler_for p f e = if is_body f.phase then handler_of p f.method f.at e.class e
 -- an initialisation fails; an exception that isn't an Error is replaced
 abbrev pub raising_plan : Program → Name → List Level → Plan
 raising_plan p e [] = plain (Needs (Finish (Some e)))
-raising_plan p e (Code f ∷ ls) = plain (from (unwinds f.phase f.lock) (handled f e) (handler_for p f e))
-raising_plan p e (Init c begun ∷ ls) = plain (Needs (InitFail c (not (is_sub_of p.classes e.class error))))
+raising_plan p e (Code f ∷ ls) =
+    plain (from (unwinds f.phase f.lock) (handled f e) (handler_for p f e))
+raising_plan p e (Init c begun ∷ ls) =
+    plain (Needs (InitFail c (not (is_sub_of p.classes e.class error))))
 
 -- ---- a thread that has not begun
 
@@ -90,7 +97,8 @@ runs_thread p who NotPublic = fault illegal_access
 abbrev pub entry_plan : Program → Who → Plan
 entry_plan p who =
     if who.first then asking (owner_of p p.main) (calls who p.main (Ref (arguments p) ∷ []))
-    else plain (runs_thread p who (select_of p.classes p.methods who.object.class (thread_run p) false))
+    else plain
+    (runs_thread p who (select_of p.classes p.methods who.object.class (thread_run p) false))
 
 -- ---- by mode
 

@@ -19,7 +19,8 @@ reason_taken m c (Some k) =
 -- there is no such thread, or it has ended
 abbrev pub reason_thread : Program → State → Choice → Option ThreadState → Option Reason
 reason_thread p m c None = Some NoThread
-reason_thread p m c (Some th) = if is_ended th.mode then Some Over else reason_taken m c (attempt p m c th)
+reason_thread p m c (Some th) =
+    if is_ended th.mode then Some Over else reason_taken m c (attempt p m c th)
 
 -- the reason against a choice, if there is one
 unfoldable pub reason : Program → State → Choice → Option Reason

@@ -8,11 +8,12 @@ use Rattle.machine_state.specs.declared.state.MonitorState.{MonitorState}
 use Rattle.machine_state.specs.declared.state.ClassState.{ClassState}
 use Rattle.machine_state.specs.State.{State, body_at, owner_at, waiters_of, is_ended}
 
--- A field is read or written, or an element; an array's length; an object of a class, or an array of
--- these sizes, a String or an exception is made; a lock is entered, left (raising: by an exception that
--- passes), waited on, or its waiters are woken; a class's initialisation begins, is done or has failed
--- (with an exception that isn't an Error: another one takes its place); a thread is started, waited
--- for, or ends with what it raised; a method of a StringBuffer is called; a text is printed.
+-- A field is read or written, or an element; an array's length; an object of a class, or an array
+-- of these sizes, a String or an exception is made; a lock is entered, left (raising: by an
+-- exception that passes), waited on, or its waiters are woken; a class's initialisation begins, is
+-- done or has failed (with an exception that isn't an Error: another one takes its place); a thread
+-- is started, waited for, or ends with what it raised; a method of a StringBuffer is called; a text
+-- is printed.
 pub data Request : Type 0 where
   Get : Name → ℕ → Request
   Put : Name → ℕ → Value → Request
@@ -45,8 +46,8 @@ pub data Key : Type 0 where
   OfThreads : Key
   OfConsole : Key
 
--- a body; a lock's owner and waiters; a class's state; the Thread objects with whether their threads
--- have ended, and what was uncaught; the output
+-- a body; a lock's owner and waiters; a class's state; the Thread objects with whether their
+-- threads have ended, and what was uncaught; the output
 pub data Cell : Type 0 where
   NoCell : Cell
   Body : Option ObjectBody → Cell

@@ -30,7 +30,8 @@ program_order t order = filter (λ c. c.thread == t) order
 -- isn't enabled
 unfoldable pub run_events : Program → State → List Told → List Choice → List Told
 run_events p m told [] = told
-run_events p m told (c ∷ cs) = from told (λ next. run_events p next (onto (step_events p m c) told) cs) (step p m c)
+run_events p m told (c ∷ cs) =
+    from told (λ next. run_events p next (onto (step_events p m c) told) cs) (step p m c)
 
 -- ---- the end
 

@@ -19,12 +19,15 @@ use Rattle.machine_state.specs.Making.{made_objects, making}
 use Rattle.machine_state.specs.Bodies.{get, put, load, store, len, buffer}
 use Rattle.machine_state.specs.Locks.{enter, by_owner, leaves, sleeps, notifies, notifies_all}
 
--- ---- classes: one is begun once, and ended by the thread that began it
+-- ---- classes
 
+-- a class is begun once
 abbrev pub begins : ℕ → ℕ → Option ClassState → Option Deed
-begins t k (Some class_state.Untouched) = Some (changing (Becomes k (class_state.Running t) ∷ []) None)
+begins t k (Some class_state.Untouched) =
+    Some (changing (Becomes k (class_state.Running t) ∷ []) None)
 begins t k s = None
 
+-- and ended by the thread that began it
 abbrev pub by_runner : ℕ → Option ClassState → Deed → Option Deed
 by_runner t (Some (class_state.Running u)) d = if u == t then Some d else None
 by_runner t s d = None
@@ -78,10 +81,15 @@ serve p t c (Make k sizes) NoCell = Some (making c.name (made_objects p c.name k
 serve p t c (MakeText us) NoCell = Some (making_text c.name [] us)
 serve p t c (Fault k) NoCell = Some (faulted p c.name k [])
 serve p t c (Enter n) (Lock o ws) = enter t n o
-serve p t c (Exit n raising) (Lock o ws) = Some (by_owner t o (if raising then quiet None else faulted p c.name monitor_state []) (leaves n))
-serve p t c (Wait n) (Lock o ws) = Some (by_owner t o (faulted p c.name monitor_state []) (sleeps t n))
-serve p t c (Notify n) (Lock o ws) = Some (by_owner t o (faulted p c.name monitor_state []) (λ o. notifies n c.pick ws))
-serve p t c (NotifyAll n) (Lock o ws) = Some (by_owner t o (faulted p c.name monitor_state []) (λ o. notifies_all n))
+serve p t c (Exit n raising) (Lock o ws) =
+    Some
+    (by_owner t o (if raising then quiet None else faulted p c.name monitor_state []) (leaves n))
+serve p t c (Wait n) (Lock o ws) =
+    Some (by_owner t o (faulted p c.name monitor_state []) (sleeps t n))
+serve p t c (Notify n) (Lock o ws) =
+    Some (by_owner t o (faulted p c.name monitor_state []) (λ o. notifies n c.pick ws))
+serve p t c (NotifyAll n) (Lock o ws) =
+    Some (by_owner t o (faulted p c.name monitor_state []) (λ o. notifies_all n))
 serve p t c (Begin k) (Class s) = begins t k s
 serve p t c (InitDone k) (Class s) = by_runner t s (changing (Becomes k class_state.Done ∷ []) None)
 serve p t c (InitFail k made) (Class s) = by_runner t s (fails p c.name k made)
@@ -102,7 +110,8 @@ pick_fits pick (w ∷ ws) = has (w ∷ ws) pick
 -- no object has one of the names of these classes with indices from this one on
 abbrev pub all_new : Heap → ℕ → ℕ → List ℕ → Bool
 all_new heap node index [] = true
-all_new heap node index (c ∷ cs) = is_none (body_at heap (named node c index)) && all_new heap node (index + 1) cs
+all_new heap node index (c ∷ cs) =
+    is_none (body_at heap (named node c index)) && all_new heap node (index + 1) cs
 
 -- the names of the made objects follow one another from the choice's; they are new, of a node that
 -- makes objects, and have indices below 2^32

@@ -22,7 +22,8 @@ all_put (e ∷ es) heap = all_put es (put name_cmp e.0 e.1 heap)
 -- boot classes are done, the others untouched; the first of these has this number
 abbrev pub first_states : ℕ → List ClassInfo → List ClassState
 first_states c [] = []
-first_states c (k ∷ ks) = (if nat_lt c boot_class_count then Done else Untouched) ∷ first_states (c + 1) ks
+first_states c (k ∷ ks) =
+    (if nat_lt c boot_class_count then Done else Untouched) ∷ first_states (c + 1) ks
 
 -- thread 0 is about to call `main`
 unfoldable pub start : Program → List (List ℕ) → State

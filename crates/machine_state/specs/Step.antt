@@ -57,12 +57,14 @@ taken p r mode ls d = record { deed = d; stand = complete p r d.answer mode ls }
 abbrev pub taken_alone : Stand → Taken
 taken_alone s = record { deed = quiet None; stand = s }
 
+-- where it can
 abbrev pub alone : Option Stand → Option Taken
 alone o = from None (λ s. Some (taken_alone s)) o
 
 -- a request is served at its cell, or isn't enabled
 unfoldable pub served : Program → State → Choice → Mode → List Level → Request → Option Taken
-served p m c mode ls r = from None (λ d. Some (taken p r mode ls d)) (serve p c.thread c r (cell m (key_of r)))
+served p m c mode ls r =
+    from None (λ d. Some (taken p r mode ls d)) (serve p c.thread c r (cell m (key_of r)))
 
 -- what comes next is done
 abbrev pub performed : Program → State → Choice → Mode → List Level → Next → Option Taken
@@ -77,16 +79,21 @@ performed p m c mode ls Stuck = None
 
 -- a class that was asked for: done or begun by this thread, the step goes on; untouched, its
 -- initialisation begins; failed, NoClassDefFoundError is raised; begun by another, it waits
-abbrev pub asked : Program → State → Choice → Mode → List Level → Next → ℕ → Option ClassState → Option Taken
+abbrev pub asked :
+    Program → State → Choice → Mode → List Level → Next → ℕ → Option ClassState → Option Taken
 asked p m c mode ls next k None = None
 asked p m c mode ls next k (Some class_state.Done) = performed p m c mode ls next
-asked p m c mode ls next k (Some (class_state.Running u)) = if u == c.thread then performed p m c mode ls next else None
+asked p m c mode ls next k (Some (class_state.Running u)) =
+    if u == c.thread then performed p m c mode ls next else None
 asked p m c mode ls next k (Some class_state.Untouched) = served p m c mode ls (Begin k)
 asked p m c mode ls next k (Some class_state.Failed) = served p m c mode ls (Fault no_class_found)
 
 -- first the class that is asked for, then what comes next
 abbrev pub planned : Program → State → Choice → Mode → List Level → Plan → Option Taken
-planned p m c mode ls plan = from (performed p m c mode ls plan.next) (λ k. asked p m c mode ls plan.next k (slice_get m.classes k)) plan.asks
+planned p m c mode ls plan =
+    from (performed p m c mode ls plan.next)
+    (λ k. asked p m c mode ls plan.next k (slice_get m.classes k))
+    plan.asks
 
 -- a thread that woke takes its lock again
 abbrev pub retaken : State → Choice → List Level → Name → ℕ → Option Taken
@@ -94,9 +101,11 @@ retaken m c ls n k =
     from None (λ d. Some (record { deed = d; stand = (Running, ls) }))
     (retakes c.thread n k (owner_at m.monitors n) (waiters_of n m.waiting))
 
+-- a thread that neither waits nor has ended does what it plans
 abbrev pub awake : Program → State → Choice → ThreadState → Option Taken
 awake p m c th = planned p m c th.mode th.levels (plan p (who m.heap c.thread th) th.mode th.levels)
 
+-- by mode
 abbrev pub by_mode : Program → State → Choice → ThreadState → Mode → Option Taken
 by_mode p m c th (Waiting n k) = retaken m c th.levels n k
 by_mode p m c th Ended = None
@@ -114,7 +123,8 @@ after th s = record { object = th.object; mode = s.0; levels = s.1; steps = th.s
 
 -- the state after a step
 unfoldable pub moved_on : State → ℕ → ThreadState → Taken → State
-moved_on m t th k = changed k.deed.changes (record m { threads = slice_set m.threads t (after th k.stand) })
+moved_on m t th k =
+    changed k.deed.changes (record m { threads = slice_set m.threads t (after th k.stand) })
 
 -- the choice's pick and name are what the deed demands
 abbrev pub allowed : State → Choice → Taken → Bool
@@ -140,4 +150,6 @@ step p m c = step_of p m c (slice_get m.threads c.thread)
 
 -- the events of a step
 unfoldable pub step_events : Program → State → Choice → List Told
-step_events p m c = from [] (λ th. from [] (λ k. told_by (Some c.thread) (events_of k.deed)) (taken_by p m c th)) (slice_get m.threads c.thread)
+step_events p m c =
+    from [] (λ th. from [] (λ k. told_by (Some c.thread) (events_of k.deed)) (taken_by p m c th))
+    (slice_get m.threads c.thread)

@@ -6,25 +6,24 @@ use Rattle.code_table.specs.declared.opcode.TheConstants as code
 use Rattle.program_image.specs.Program.{Program}
 use Rattle.machine_state.specs.BootClasses.{thread, thread_state}
 use Rattle.machine_runs.specs.Assembly.{Line, int, boolean, object, does, arith, iconst, aload, astore, dup, goto, return, monitorenter, monitorexit, getfield, putfield, invoke, new, method, public, public_synchronized, class_under, field, strings, with_handlers, catches}
-use Rattle.machine_runs.specs.Boot.{plain, runnable, init_calling}
+use Rattle.machine_runs.specs.Boot.{plain, any_object, runnable, init_calling}
 use Rattle.machine_runs.specs.Linked.{linked, main_method, out, println_int, calls_init}
 
--- `start` and `join` of a Thread
+-- `start` of a Thread
 abbrev pub start : Line
 start = invoke code.INVOKEVIRTUAL [] None 34
 
+-- `join` of a Thread
 abbrev pub join : Line
 join = invoke code.INVOKEVIRTUAL [] None 35
 
--- types of the programs' fields
+-- the type of Counters
 abbrev pub counter : Desc
 counter = object (codes "Counter")
 
+-- the type of Flags
 abbrev pub flag : Desc
 flag = object (codes "Flag")
-
-abbrev pub any_object : Desc
-any_object = object (codes "java/lang/Object")
 
 -- class Counter { int n; synchronized void add() { n = n + 1; } }
 -- class Adder extends Thread { Counter c; public void run() { c.add(); c.add(); } }

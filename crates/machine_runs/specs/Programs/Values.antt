@@ -3,8 +3,8 @@ use Rattle.std.specs.Prelude.{pos, negsuc, [], ◌∷◌, codes, Some, None}
 use Rattle.code_table.specs.declared.op.Op.TheVariants as op
 use Rattle.code_table.specs.declared.opcode.TheConstants as code
 use Rattle.program_image.specs.Program.{Program}
-use Rattle.machine_runs.specs.Assembly.{int, long, char, boolean, object, text, does, arith, iconst, iload, lload, aload, istore, lstore, astore, dup, goto, return, constant, long_constant, literal, invoke, new, class_under, strings}
-use Rattle.machine_runs.specs.Boot.{buffer}
+use Rattle.machine_runs.specs.Assembly.{int, long, char, boolean, text, does, arith, iconst, iload, lload, aload, istore, lstore, astore, dup, goto, return, constant, long_constant, literal, invoke, new, class_under, strings}
+use Rattle.machine_runs.specs.Boot.{buffer, any_object}
 use Rattle.machine_runs.specs.Linked.{linked, main_method, out, println_int, println_long, println_char, println_boolean, println_text}
 
 -- class Numbers {
@@ -82,8 +82,8 @@ texts =
     ∷ out ∷ aload 1 ∷ invoke code.INVOKEVIRTUAL [] (Some text) 17 ∷ println_text
     ∷ out ∷ literal 37 ∷ iconst (pos 1) ∷ invoke code.INVOKEVIRTUAL (int ∷ []) (Some char) 5 ∷ println_char
     ∷ out ∷ literal 38 ∷ literal 39 ∷ invoke code.INVOKEVIRTUAL (text ∷ []) (Some text) 7 ∷ literal 37
-    ∷ invoke code.INVOKEVIRTUAL (object (codes "java/lang/Object") ∷ []) (Some boolean) 6 ∷ println_boolean
-    ∷ out ∷ literal 37 ∷ aload 1 ∷ invoke code.INVOKEVIRTUAL (object (codes "java/lang/Object") ∷ []) (Some boolean) 6 ∷ println_boolean
+    ∷ invoke code.INVOKEVIRTUAL (any_object ∷ []) (Some boolean) 6 ∷ println_boolean
+    ∷ out ∷ literal 37 ∷ aload 1 ∷ invoke code.INVOKEVIRTUAL (any_object ∷ []) (Some boolean) 6 ∷ println_boolean
     ∷ out ∷ does (op.Push (negsuc 4)) ∷ invoke code.INVOKESTATIC (int ∷ []) (Some text) 8 ∷ invoke code.INVOKEVIRTUAL [] (Some int) 4 ∷ println_int
     ∷ out ∷ literal 40 ∷ iconst (pos 0) ∷ invoke code.INVOKEVIRTUAL (int ∷ []) (Some char) 5 ∷ println_char
     ∷ return ∷ [])

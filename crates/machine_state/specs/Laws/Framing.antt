@@ -25,4 +25,6 @@ OneHomeLaw = (p : Program) (m l : State) (c : Choice) → step p m c ≡ Some l 
 
 -- threads but the choice's stay as they are
 abbrev pub OtherThreadsLaw : Type 0
-OtherThreadsLaw = (p : Program) (m l : State) (c : Choice) (u : ℕ) (th : ThreadState) → step p m c ≡ Some l → u ≢ c.thread → slice_get m.threads u ≡ Some th → slice_get l.threads u ≡ Some th
+OtherThreadsLaw =
+    (p : Program) (m l : State) (c : Choice) (u : ℕ) (th : ThreadState) → step p m c ≡ Some l
+    → u ≢ c.thread → slice_get m.threads u ≡ Some th → slice_get l.threads u ≡ Some th

@@ -11,7 +11,9 @@ use Rattle.machine_state.specs.Step.{step}
 -- there is a key such that each body that it doesn't address, and that is there, stays
 pub record KeepsBodies (m l : State) : Type 0 where
   pub key : Key
-  pub kept : (n : Name) (b : ObjectBody) → OfBody n ≢ key → body_at m.heap n ≡ Some b → body_at l.heap n ≡ Some b
+  pub kept :
+      (n : Name) (b : ObjectBody) → OfBody n ≢ key
+      → body_at m.heap n ≡ Some b → body_at l.heap n ≡ Some b
 
 -- so what a step makes is new
 abbrev pub KeptLaw : Type 0

@@ -18,6 +18,9 @@ Alike None None = Unit {0}
 Alike (Some a) (Some b) = DemandsAlike a.deed b.deed
 Alike _ _ = ⊥
 
--- whether a step is enabled, what it makes and whom it may pick don't depend on the choice's name and pick
+-- whether a step is enabled, what it makes and whom it may pick don't depend on the choice's name
+-- and pick
 abbrev pub OneNextLaw : Type 0
-OneNextLaw = (p : Program) (m : State) (c d : Choice) (th : ThreadState) → c.thread ≡ d.thread → Alike (attempt p m c th) (attempt p m d th)
+OneNextLaw =
+    (p : Program) (m : State) (c d : Choice) (th : ThreadState) → c.thread ≡ d.thread
+    → Alike (attempt p m c th) (attempt p m d th)
