@@ -2,5 +2,7 @@
 #![tactic(auto)]
 
 mod answer;
+mod numbers;
+mod operands;
 
 pub use answer::{Fault, Given, Pure};
