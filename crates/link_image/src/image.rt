@@ -58,7 +58,7 @@ fn class_infos(
 }
 
 /// The number of a declared method.
-fn method_number(lookup: &Lookup<'_, '_>, x: &Found) -> u32
+fn method_number(lookup: &Lookup<'_, '_, '_>, x: &Found) -> u32
     requires infos { lookup.now.infos.now
         ≡ class_infos lookup.now.resolver.now lookup.now.arrays.now lookup.now.constants.literals.now }
     requires inside { x.now.place < length (methods_at lookup.now.resolver.now x.now.class) }
@@ -74,7 +74,7 @@ fn method_number(lookup: &Lookup<'_, '_>, x: &Found) -> u32
 /// is the method where a run begins.
 pub fn build(
     alloc: Global,
-    resolver: &Resolver<'_>,
+    resolver: &Resolver<'_, '_>,
     ranks: &[u32],
     arrays: &Arrays,
     literals: &Literals<'_>,

@@ -19,15 +19,15 @@ use std::alloc::Global;
 /// What names are looked up in: the declared classes, the array types, the literals, and all classes
 /// as the image has them.
 #[derive(Clone, Copy)]
-pub(crate) struct Lookup<'a, 'b> {
-    pub(crate) resolver: &'a Resolver<'b>,
+pub(crate) struct Lookup<'a, 'p, 'b> {
+    pub(crate) resolver: &'a Resolver<'p, 'b>,
     pub(crate) arrays: &'a Arrays,
     pub(crate) constants: Constants<'a, 'b>,
     pub(crate) infos: &'a [ClassInfo],
 }
 
 /// The field that an item names.
-pub(crate) fn field(lookup: &Lookup<'_, '_>, m: &Called) -> Option<Target>
+pub(crate) fn field(lookup: &Lookup<'_, '_, '_>, m: &Called) -> Option<Target>
     ensures { result ≡ option_and_then (field_at lookup.now.infos.now) (found_field lookup.now.resolver.now (seen_member m.now)) }
 {
     let found = lookup.resolver.field(m)?;
@@ -41,7 +41,7 @@ pub(crate) fn field(lookup: &Lookup<'_, '_>, m: &Called) -> Option<Target>
 }
 
 /// The method that an item names.
-pub(crate) fn method(lookup: &Lookup<'_, '_>, m: &Called) -> Option<Target>
+pub(crate) fn method(lookup: &Lookup<'_, '_, '_>, m: &Called) -> Option<Target>
     ensures { result ≡ option_and_then (method_at lookup.now.infos.now) (found_method lookup.now.resolver.now (seen_member m.now)) }
 {
     let found = lookup.resolver.method(m)?;
@@ -52,7 +52,7 @@ pub(crate) fn method(lookup: &Lookup<'_, '_>, m: &Called) -> Option<Target>
 
 /// The constant at an index.
 pub(crate) fn constant_target(
-    lookup: &Lookup<'_, '_>,
+    lookup: &Lookup<'_, '_, '_>,
     file: &ClassFile,
     index: u16,
 ) -> Option<Target>
@@ -66,7 +66,7 @@ pub(crate) fn constant_target(
 /// The class of a class item's text.
 pub(crate) fn class(
     alloc: Global,
-    lookup: &Lookup<'_, '_>,
+    lookup: &Lookup<'_, '_, '_>,
     text: &[u16],
 ) -> Result<Option<Target>, NoMemory>
     requires { IsFit lookup.now }
@@ -79,7 +79,7 @@ pub(crate) fn class(
 }
 
 /// The declared class of a name.
-pub(crate) fn declared_class(lookup: &Lookup<'_, '_>, name: &[u16]) -> Option<Target>
+pub(crate) fn declared_class(lookup: &Lookup<'_, '_, '_>, name: &[u16]) -> Option<Target>
     requires { IsFit lookup.now }
     ensures { result ≡ option_map Target.Class (number_of lookup.now.resolver.now name.now) }
 {

@@ -27,7 +27,7 @@ pub(crate) type Targets = List<(u32, u32, Target)>;
 /// What an instruction of a class names.
 fn op_target(
     alloc: Global,
-    lookup: &Lookup<'_, '_>,
+    lookup: &Lookup<'_, '_, '_>,
     file: &ClassFile,
     op: &Op,
 ) -> Result<Option<Target>, NoMemory>
@@ -61,7 +61,7 @@ fn add(targets: &mut Targets, method: u32, at: u32, target: Option<Target>) -> R
 fn add_ops(
     alloc: Global,
     targets: &mut Targets,
-    lookup: &Lookup<'_, '_>,
+    lookup: &Lookup<'_, '_, '_>,
     file: &ClassFile,
     method: u32,
     ops: &[Placed],
@@ -77,7 +77,7 @@ fn add_ops(
 }
 
 /// The class of an entry of an exception table.
-fn caught(lookup: &Lookup<'_, '_>, file: &ClassFile, entry: TableItem) -> Option<Target>
+fn caught(lookup: &Lookup<'_, '_, '_>, file: &ClassFile, entry: TableItem) -> Option<Target>
     requires { IsFit lookup.now }
     ensures { result ≡ caught (seen_lookup lookup.now) file.now entry }
 {
@@ -92,7 +92,7 @@ fn caught(lookup: &Lookup<'_, '_>, file: &ClassFile, entry: TableItem) -> Option
 /// Adds the classes of the entries of a method's exception table.
 fn add_table(
     targets: &mut Targets,
-    lookup: &Lookup<'_, '_>,
+    lookup: &Lookup<'_, '_, '_>,
     file: &ClassFile,
     method: u32,
     table: &[TableItem],
@@ -114,7 +114,7 @@ fn add_table(
 fn add_method(
     alloc: Global,
     targets: &mut Targets,
-    lookup: &Lookup<'_, '_>,
+    lookup: &Lookup<'_, '_, '_>,
     file: &ClassFile,
     number: u32,
     method: &MethodItem,
@@ -134,7 +134,7 @@ fn add_method(
 fn add_class(
     alloc: Global,
     targets: &mut Targets,
-    lookup: &Lookup<'_, '_>,
+    lookup: &Lookup<'_, '_, '_>,
     first: u32,
     file: &ClassFile,
     codes: &[Option<Code>],
@@ -157,7 +157,7 @@ fn add_class(
 /// What all methods name, which have this code.
 pub(crate) fn all_targets(
     alloc: Global,
-    lookup: &Lookup<'_, '_>,
+    lookup: &Lookup<'_, '_, '_>,
     codes: &[List<Option<Code>>],
 ) -> Result<Targets, NoMemory>
     requires fit { IsFit lookup.now }
