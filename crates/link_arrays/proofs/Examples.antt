@@ -8,12 +8,18 @@ use Rattle.jvm_base.specs.declared.pool.PoolItem.TheVariants as item
 use Rattle.jvm_base.specs.Descriptors.{desc_of, desc_at, elem_at, desc_text}
 use Rattle.class_format.specs.declared.class.ClassFile.{ClassFile}
 use Rattle.class_format.specs.declared.class.FieldItem.{FieldItem}
+use Rattle.class_format.specs.declared.class.MethodItem.{MethodItem}
 use Rattle.code_table.specs.declared.code.Code.{Code}
 use Rattle.code_table.specs.declared.op.Op.{Op}
 use Rattle.code_table.specs.declared.op.Op.TheVariants.{NewArray, AnewArray, Cast, MultiNewArray, Ldc}
-use Rattle.link_arrays.specs.Arrays.{strings, code_types, with_types}
+use Rattle.code_table.specs.Decoded.{decoded}
+use Rattle.code_table.specs.Instructions.{sized_at, instruction_at}
+use Rattle.code_table.specs.Sequences.{instructions_from, instructions_of}
+use Rattle.code_table.specs.Table.{table, form_at}
+use Rattle.code_table.specs.Targets.{is_start, leads_off, is_bad_entry}
+use Rattle.link_arrays.specs.Arrays.{strings, code_types, with_types, array_types}
 use Rattle.link_arrays.specs.ArrayClasses.{class_number, array_info}
-use Rattle.link_arrays.specs.Literals.{field_literals, code_literals, with_contents}
+use Rattle.link_arrays.specs.Literals.{field_literals, code_literals, with_contents, literals}
 
 -- ---- the program
 
@@ -76,3 +82,30 @@ classes_by_text = refl
 pub literals_in_order : contents ≡ codes "blue" ∷ codes "red" ∷ []
 unfolding contents code pool field
 literals_in_order = refl
+
+-- ---- the same from bytes: a file whose method makes an array of short and one of arrays of A, and
+-- loads "red"
+
+method : MethodItem
+method = record {
+  flags = 8;
+  name = 0;
+  desc = 0;
+  code = Some (record {
+    max_stack = 1;
+    max_locals = 0;
+    code = 4 ∷ 188 ∷ 9 ∷ 87 ∷ 4 ∷ 189 ∷ 0 ∷ 8 ∷ 87 ∷ 18 ∷ 10 ∷ 87 ∷ 177 ∷ [];
+    table = [];
+  });
+}
+
+pub file : ClassFile
+file = record { minor = 3; major = 45; pool = pool; flags = 1; this_class = 6; super_class = 0; interfaces = []; fields = field (Some 12) ∷ []; methods = method ∷ [] }
+
+pub types_of_file : map desc_text (array_types (file ∷ [])) ≡ codes "[Ljava/lang/String;" ∷ codes "[S" ∷ codes "[[Lp/A;" ∷ codes "[Lp/A;" ∷ []
+unfolding file method field pool array_types decoded sized_at instruction_at instructions_from instructions_of table form_at is_start leads_off is_bad_entry desc_of desc_at elem_at
+types_of_file = refl
+
+pub literals_of_file : literals (file ∷ []) ≡ codes "blue" ∷ codes "red" ∷ []
+unfolding file method field pool literals decoded sized_at instruction_at instructions_from instructions_of table form_at is_start leads_off is_bad_entry desc_of desc_at elem_at
+literals_of_file = refl

@@ -6,3 +6,4 @@ pub mod ClosedNames
 pub mod ArrayLaws
 pub mod LiteralLaws
 pub mod Examples
+pub mod BootLaws
