@@ -90,7 +90,7 @@ class_within all arrays text n e = by (is_array text) e
 -- ---- each has its number
 
 -- an item that passes has a place
-passes_within : {A : Type 0} (p : A → Bool) (xs : List A) → list_any p xs ≡ true → position_or_len p xs < length xs
+pub passes_within : {A : Type 0} (p : A → Bool) (xs : List A) → list_any p xs ≡ true → position_or_len p xs < length xs
 passes_within p [] e = absurd cc
 passes_within p (x ∷ xs) e = elim (or_cases (p x) (list_any p xs) e) [
   | inl here ↦ (let q : position_or_len p (x ∷ xs) ≡ 0 = ap (λ b. cond (not b) (1 + position_or_len p xs) 0) here in omega arith)

@@ -30,7 +30,7 @@ level_same : (m n : ℕ) (d e : Elem) → m ≡ n → same_elem d e ≡ true →
 level_same m n d e q h = let t : (m == n) ≡ true = grind (arith, nat_tests) in ap (λ b. b && same_elem d e) t ∙ h
 
 -- a level that is seen is below the number of dimensions and of the element type
-level_within : (n m : ℕ) (d e : Elem) → is_seen same_desc (levels n e) (array m d) ≡ true → (m ≤ n) × (same_elem d e ≡ true)
+pub level_within : (n m : ℕ) (d e : Elem) → is_seen same_desc (levels n e) (array m d) ≡ true → (m ≤ n) × (same_elem d e ≡ true)
 level_within zero m d e h = absurd cc
 level_within (suc n) m d e h = elim (or_cases (same_desc (array m d) (array (suc n) e)) (is_seen same_desc (levels n e) (array m d)) h) [
   | inl s ↦ (let k = same_level m (suc n) d e s in (omega arith, k.1))

@@ -5,5 +5,6 @@ pub mod Counted
 pub mod ClosedNames
 pub mod ArrayLaws
 pub mod LiteralLaws
+pub mod ElemLaws
 pub mod Examples
 pub mod BootLaws

@@ -23,7 +23,7 @@ use Rattle.program_image.proofs.Signatures.{texts_decide, equivalence_of}
 use Rattle.link_arrays.specs.Literals.{text_contents, contents_at, field_literals, op_literals, code_literals, file_literals, literals}
 use Rattle.link_arrays.proofs.SeenLaws.{seen_items, once_distinct}
 
-names_equivalent : IsEquivalence is_name
+pub names_equivalent : IsEquivalence is_name
 names_equivalent = equivalence_of is_name texts_decide
 
 -- ---- they differ
