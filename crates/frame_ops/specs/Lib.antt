@@ -4,4 +4,6 @@ pub mod Moves
 pub mod Operands
 pub mod Table
 pub mod Condition
+pub mod Jumping
+pub mod Shuffles
 pub mod Stepping

@@ -1,5 +1,5 @@
 -- How instructions take their operands, the newest first.
-use Rattle.std.specs.Prelude.{ℕ, ℤ, pos, ◌-◌, ◌==◌, not, Bool, true, false, ◌||◌, if◌then◌else◌, int_lt, List, [], ◌∷◌, take, drop, find, Option, None, slice_get, slice_index, slice_index_or}
+use Rattle.std.specs.Prelude.{ℕ, ℤ, pos, ◌-◌, ◌==◌, not, Bool, true, false, ◌||◌, if◌then◌else◌, int_lt, List, [], ◌∷◌, take, drop, find, Option, None, slice_get, slice_index}
 use Rattle.std.specs.Int.{Width, w32, w64, int_wrapping_add, int_wrapping_neg, is_negative}
 use Rattle.std.specs.List.{list_any}
 use Rattle.std.specs.Ordering.{int_eq}
@@ -148,9 +148,13 @@ abbrev pub table_target : ℕ → ℤ → ℤ → List ℕ → ℤ → ℕ
 table_target other low high to key =
     if int_lt key low || int_lt high key then other else slice_index to (distance key low)
 
+-- the pair is the key's
+abbrev pub is_of_key : ℤ → ℤ × ℕ → Bool
+is_of_key key p = int_eq p.0 key
+
 -- where a `lookupswitch` leads for a key
 abbrev pub pair_target : ℕ → List (ℤ × ℕ) → ℤ → ℕ
-pair_target other pairs key = from other (λ p. p.1) (find (λ p. int_eq p.0 key) pairs)
+pair_target other pairs key = from other (λ p. p.1) (find (is_of_key key) pairs)
 
 -- a `tableswitch`
 abbrev pub switches_table : ℕ → ℤ → ℤ → List ℕ → List Value → Move
@@ -165,7 +169,7 @@ switches_pairs other pairs vs = one_int (λ key rest. Jumps (pair_target other p
 
 -- the value of a local
 abbrev pub local_at : List Value → ℕ → Value
-local_at locals i = slice_index_or locals i Null
+local_at locals i = from Null (λ v. v) (slice_get locals i)
 
 -- the locals that a value takes: a long takes two
 abbrev pub local_slots : Value → List Value

@@ -2,7 +2,10 @@
 #![tactic(auto)]
 
 mod answer;
+mod jumps;
+mod locals;
 mod numbers;
 mod operands;
+mod shuffles;
 
 pub use answer::{Fault, Given, Pure};
