@@ -2,10 +2,12 @@
 #![tactic(auto)]
 
 mod answer;
+mod asks;
 mod jumps;
 mod locals;
 mod numbers;
 mod operands;
 mod shuffles;
+mod step;
 
 pub use answer::{Fault, Given, Pure};

@@ -6,6 +6,8 @@ ghost use Rattle.instruction_table.specs.Rows.{pop_row, dup_row};
 ghost use Rattle.instruction_table.specs.Working.{group_count, swapped};
 ghost use Rattle.instruction_table.specs.declared.row.Group.{Group};
 ghost use Rattle.instruction_table.specs.declared.row.Row.TheVariants as row;
+ghost use Rattle.frame_ops.specs.Condition.{CanMove, stack_after};
+ghost use Rattle.frame_ops.specs.Moves.{Goes};
 ghost use Rattle.frame_ops.specs.Operands.{is_wide, shuffled, under};
 ghost use Rattle.frame_ops.specs.Shuffles.{few_values, put_values};
 
@@ -51,6 +53,73 @@ fn put(few: Few, stack: &mut Operands)
         stack.push(value);
     }
     if let Some(value) = few.first {
+        stack.push(value);
+    }
+}
+
+fn pop_group(op: u8) -> Group
+    ensures { row.Drops result ≡ pop_row op }
+{
+    if op == opcode::POP {
+        Group::One
+    } else {
+        Group::Wide
+    }
+}
+
+/// Takes a group off.
+pub(crate) fn pop(op: u8, stack: &mut Operands)
+    ensures { stack.new ≡ stack_after (Goes (shuffled (pop_row op) stack.old.values)) stack.old }
+{
+    let group = pop_group(op);
+    let _ = take_group(group, stack);
+}
+
+fn dup_groups(op: u8) -> (Group, Group)
+    ensures { row.Doubles result.0 result.1 ≡ dup_row op }
+{
+    match op {
+        opcode::DUP => (Group::One, Group::Nothing),
+        opcode::DUP_X1 => (Group::One, Group::One),
+        opcode::DUP_X2 => (Group::One, Group::Wide),
+        opcode::DUP2 => (Group::Wide, Group::Nothing),
+        opcode::DUP2_X1 => (Group::Wide, Group::One),
+        _ => (Group::Wide, Group::Wide),
+    }
+}
+
+/// Puts a copy of the top group below the one under it.
+fn double(top: Group, below: Group, stack: &mut Operands)
+    requires { length (shuffled (row.Doubles top below) stack.old.values) ≤ stack.old.room }
+    ensures { stack.new ≡ stack_after (Goes (shuffled (row.Doubles top below) stack.old.values)) stack.old }
+{
+    let first = take_group(top, stack);
+    let second = take_group(below, stack);
+    put(first, stack);
+    put(second, stack);
+    put(first, stack);
+}
+
+/// Doubles a group by the opcode.
+pub(crate) fn dup(op: u8, stack: &mut Operands)
+    requires { CanMove (Goes (shuffled (dup_row op) stack.old.values)) stack.old }
+    ensures { stack.new ≡ stack_after (Goes (shuffled (dup_row op) stack.old.values)) stack.old }
+{
+    let (top, below) = dup_groups(op);
+    double(top, below, stack);
+}
+
+/// Turns two values.
+pub(crate) fn swap(stack: &mut Operands)
+    requires { CanMove (Goes (shuffled row.Swaps stack.old.values)) stack.old }
+    ensures { stack.new ≡ stack_after (Goes (shuffled row.Swaps stack.old.values)) stack.old }
+{
+    let first = stack.pop();
+    let second = stack.pop();
+    if let Some(value) = first {
+        stack.push(value);
+    }
+    if let Some(value) = second {
         stack.push(value);
     }
 }
