@@ -4,3 +4,4 @@ pub mod Files
 pub mod Seen
 pub mod Sizes
 pub mod Intrinsics
+pub mod Decoding

@@ -12,4 +12,4 @@ mod row;
 mod table;
 
 pub use build::boot_classes;
-pub use laws::boot_is_formed;
+pub use laws::{boot_is_decoded, boot_is_formed};
