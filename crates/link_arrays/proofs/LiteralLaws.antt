@@ -119,8 +119,8 @@ few_in_pool pool =
     at_most_one pool (Text text) = omega arith
     at_most_one pool item = omega arith
 
--- the literals of at most 1,024 files, whose pools have counts of two bytes, fit a number of four
-pub few_literals : (files : List ClassFile) → length files ≤ 1024 → All (λ f. length f.pool < 2 ^ 16) files → length (literals files) < 2 ^ 32
+-- at most 1,024 files, whose pools have counts of two bytes, have at most so many literals
+pub few_literals : (files : List ClassFile) → length files ≤ 1024 → All (λ f. length f.pool < 2 ^ 16) files → length (literals files) ≤ 2 ^ 26
 unfolding literals
 few_literals files few pools =
     let contents : List (List ℕ) = flat_map (λ f. pool_contents f.pool) files in
