@@ -15,6 +15,7 @@ use Rattle.class_names.specs.Classes.{super_text}
 use Rattle.hierarchy.specs.Hierarchy.{row_of, IsRanked, Under}
 use Rattle.hierarchy.specs.Hierarchy.Under.{directly, over}
 use Rattle.link_rules.specs.Numbers.{number_of, super_row, interface_row, above_rows}
+use Rattle.link_arrays.proofs.ArrayLaws.{part_falls}
 use Rattle.link_arrays.specs.ArrayClasses.{array_number, elem_number, type_number, part_type, array_class, array_classes}
 use Rattle.program_image.specs.Signatures.{same_desc, same_elem}
 use Rattle.program_image.specs.Subclass.{all_above}
@@ -22,7 +23,7 @@ use Rattle.program_image.specs.declared.info.ClassInfo.{ClassInfo}
 use Rattle.link_image.specs.Classes.{super_number, class_info, declared_infos, class_infos}
 use Rattle.link_image.proofs.ListLaws.{get_map_from, length_map_from}
 use Rattle.class_format.proofs.Recursion.{all_of}
-use Rattle.link_image.proofs.ClassLaws.{elem_within, above_within}
+use Rattle.link_image.proofs.ClassLaws.{above_within}
 
 -- ---- which class an item is
 
@@ -108,28 +109,20 @@ level_array all arrays ranks j d same e =
     ∙ get_or_from_slice_get (map g arrays) j (g d) 0 (slice_get-map g arrays j ∙ ap (option_map g) e)
 
 -- the part of an array lies below it
-part_falls : (all : List ClassFile) (arrays : List Desc) (ranks : List ℕ) (d : Desc) (k : ℕ) → length ranks ≡ length all → ((c : ℕ) → slice_index ranks c < length all + 2) → type_number all arrays (part_type d) ≡ Some k → slice_index (levels all arrays ranks) k < length all + 2 + d.dims
-part_falls all arrays ranks d k same most e = by ((part_type d).dims == 0) refl e
-  where
-    by : (b : Bool) → ((part_type d).dims == 0) ≡ b → (if b then elem_number all d.elem else array_number all arrays (part_type d)) ≡ Some k → slice_index (levels all arrays ranks) k < length all + 2 + d.dims
-    by true z h =
-        let inside = elem_within all d.elem k h in
-        let l = level_declared all arrays ranks k same inside in
-        let m = most k in omega arith
-    by false z h =
-        let t = map_some (λ j. length all + j) (position (same_desc (part_type d)) arrays) k h in
-        let p = position-Some (same_desc (part_type d)) arrays t.0 d t.1 in
-        let found : Desc = get_or arrays t.0 d in
-        let there : slice_get arrays t.0 ≡ Some found = slice_get-get_or arrays t.0 d p.0 in
-        let l = level_array all arrays ranks t.0 found same there in
-        let l2 : slice_index (levels all arrays ranks) k ≡ length all + 2 + found.dims = ap (slice_index (levels all arrays ranks)) (sym t.2) ∙ l in
-        let q = (and_parts ((part_type d).dims == found.dims) (same_elem d.elem found.elem) p.1).0 in
-        let dims : d.dims - 1 ≡ found.dims = grind (arith, nat_tests) in
-        let some : (d.dims - 1 ≡ 0) → ⊥ = λ s. (let u = q in grind (arith, nat_tests)) in
-        omega arith
+part_below : (all : List ClassFile) (arrays : List Desc) (ranks : List ℕ) (d : Desc) (k : ℕ) → length ranks ≡ length all → ((c : ℕ) → slice_index ranks c < length all + 2) → type_number all arrays (part_type d) ≡ Some k → slice_index (levels all arrays ranks) k < length all + 2 + d.dims
+part_below all arrays ranks d k same most e = elim (part_falls all arrays d k e) [
+  | inl inside ↦
+      let l = level_declared all arrays ranks k same inside in
+      let m = most k in omega arith
+  | inr array ↦
+      let behind : length all + (k - length all) ≡ k = (let q = array.0 in omega arith) in
+      let l = level_array all arrays ranks (k - length all) (part_type d) same array.2 in
+      let l2 : slice_index (levels all arrays ranks) k ≡ length all + 2 + (d.dims - 1) = ap (slice_index (levels all arrays ranks)) (sym behind) ∙ l in
+      let falls = array.3 in omega arith
+]
 
 -- each class lies below what is directly above it
-level_falls : (all : List ClassFile) (arrays : List Desc) (literals : List (List ℕ)) (ranks : List ℕ) → IsRanked (above_rows all) ranks → 0 < length all → (c k : ℕ) → Contains (row_of (map all_above (class_infos all arrays literals)) c) k → slice_index (levels all arrays ranks) k < slice_index (levels all arrays ranks) c
+pub level_falls : (all : List ClassFile) (arrays : List Desc) (literals : List (List ℕ)) (ranks : List ℕ) → IsRanked (above_rows all) ranks → 0 < length all → (c k : ℕ) → Contains (row_of (map all_above (class_infos all arrays literals)) c) k → slice_index (levels all arrays ranks) k < slice_index (levels all arrays ranks) c
 level_falls all arrays literals ranks r some c k w =
     let i = row_info (class_infos all arrays literals) all_above c k w in
     by i.0 (kind_of all arrays literals c i.0 i.1) i.2
@@ -161,7 +154,7 @@ level_falls all arrays literals ranks r some c k w =
               let l2 : slice_index (levels all arrays ranks) k ≡ slice_index ranks 0 = ap (slice_index (levels all arrays ranks)) (sym z2) ∙ l in
               let m = most 0 in omega arith
           | inr b ↦
-              let l = part_falls all arrays ranks d k same most (in_option (type_number all arrays (part_type d)) k b) in omega arith
+              let l = part_below all arrays ranks d k same most (in_option (type_number all arrays (part_type d)) k b) in omega arith
         ]
 
 under_falls : (rows : List (List ℕ)) (ls : List ℕ) → ((c k : ℕ) → Contains (row_of rows c) k → slice_index ls k < slice_index ls c) → (c d : ℕ) → Under rows c d → slice_index ls d < slice_index ls c

@@ -15,17 +15,12 @@ use Rattle.class_names.specs.Known.{is_name}
 use Rattle.class_names.specs.Texts.{is_array}
 use Rattle.class_names.specs.Classes.{this_name, super_text, interface_texts}
 use Rattle.link_rules.specs.Numbers.{number_of, super_row, interface_row}
+use Rattle.link_arrays.proofs.ArrayLaws.{number_within, array_within}
 use Rattle.link_arrays.specs.ArrayClasses.{array_number, elem_number, type_number, class_number, part_type, array_class, array_classes}
 use Rattle.program_image.specs.Signatures.{same_desc}
 use Rattle.program_image.specs.declared.info.ClassInfo.{ClassInfo}
 use Rattle.link_image.specs.Classes.{super_number, class_info, declared_infos, class_infos}
 use Rattle.link_image.proofs.ListLaws.{length_map_from, all_append, all_filtered, all_option}
-
--- the number of a declared class is below their count
-pub number_within : (all : List ClassFile) (name : List ℕ) (k : ℕ) → number_of all name ≡ Some k → k < length all
-number_within all name k e =
-    let p = (position-Some (is_name name) (map this_name all) k [] e).0 in
-    let l = length-map all this_name in omega arith
 
 pub super_within : (all : List ClassFile) (f : ClassFile) (k : ℕ) → super_number all f ≡ Some k → k < length all
 super_within all f k e = let t = then_some (number_of all) (super_text f) k e in number_within all t.0 k t.2
@@ -40,13 +35,7 @@ super_row_within all f = all_filtered (λ k. k < length all) (number_of all) (op
 pub above_within : (all : List ClassFile) (f : ClassFile) → AllByRecursion (λ k. k < length all) (super_row all f ++ interface_row all f)
 above_within all f = all_append (λ k. k < length all) (super_row all f) (interface_row all f) (super_row_within all f) (interfaces_within all f)
 
-pub array_within : (all : List ClassFile) (arrays : List Desc) (d : Desc) (k : ℕ) → array_number all arrays d ≡ Some k → k < length all + length arrays
-array_within all arrays d k e =
-    let t = map_some (λ j. length all + j) (position (same_desc d) arrays) k e in
-    let p = (position-Some (same_desc d) arrays t.0 d t.1).0 in
-    let s : length all + t.0 ≡ k = t.2 in omega arith
-
-pub elem_within : (all : List ClassFile) (e : Elem) (k : ℕ) → elem_number all e ≡ Some k → k < length all
+elem_within : (all : List ClassFile) (e : Elem) (k : ℕ) → elem_number all e ≡ Some k → k < length all
 elem_within all (Object name) k h = number_within all name k h
 elem_within all _ k h = absurd cc
 
@@ -55,14 +44,7 @@ type_within all arrays d k e = by (d.dims == 0) e
   where
     by : (b : Bool) → (if b then elem_number all d.elem else array_number all arrays d) ≡ Some k → k < length all + length arrays
     by true h = let a = elem_within all d.elem k h in omega arith
-    by false h = array_within all arrays d k h
-
-pub class_within : (all : List ClassFile) (arrays : List Desc) (text : List ℕ) (k : ℕ) → class_number all arrays text ≡ Some k → k < length all + length arrays
-class_within all arrays text k e = by (is_array text) e
-  where
-    by : (b : Bool) → (if b then option_and_then (array_number all arrays) (desc_of text) else number_of all text) ≡ Some k → k < length all + length arrays
-    by true h = let t = then_some (array_number all arrays) (desc_of text) k h in array_within all arrays t.0 k t.2
-    by false h = let a = number_within all text k h in omega arith
+    by false h = (array_within all arrays d k h).1
 
 -- how many classes there are
 pub count_infos : (all : List ClassFile) (arrays : List Desc) (literals : List (List ℕ)) → length (class_infos all arrays literals) ≡ length all + length arrays

@@ -1,16 +1,26 @@
 -- Class files are small, since their counts take two bytes.
-use Rattle.std.proofs.Common.{◌≡◌, ℕ, ◌<◌, ◌+◌, ◌*◌, ◌^◌, List, [], ◌∷◌, ◌++◌, Option, Some, None, length, map, arith}
-use Rattle.std.specs.List.{All, AllByRecursion, sum_by}
-use Rattle.std.proofs.lemmas.List.{length-map}
-use Rattle.std.proofs.lemmas.List.Sums.{sum_by-le}
+use Rattle.std.proofs.Common.{◌≡◌, ℕ, ◌<◌, ◌+◌, ◌*◌, ◌^◌, List, [], ◌∷◌, ◌++◌, Option, Some, None, length, map, arith, Bool, true, false, ◌≤◌, refl, sym, ap, subst, ◌∙◌}
+use Rattle.std.specs.Prelude.{◌||◌, cond}
+use Rattle.std.specs.List.{All, AllByRecursion, sum_by, flat_map}
+use Rattle.std.proofs.lemmas.List.Elements.{All-append}
+use Rattle.std.proofs.lemmas.List.{length-map, length-append}
+use Rattle.std.proofs.lemmas.List.Sums.{sum_by-le, sum_by-append, sum_by-cons}
 use Rattle.jvm_base.specs.declared.code_item.CodeItem.{CodeItem}
 use Rattle.jvm_base.specs.declared.pool.PoolItem.{PoolItem}
 use Rattle.class_format.specs.declared.class.ClassFile.{ClassFile}
 use Rattle.class_format.specs.declared.class.MethodItem.{MethodItem}
 use Rattle.class_format.specs.Meaning.{IsClass, IsMethod, HasCode, Spelled, contents_of, holds_code, plain_field, plain_method}
 use Rattle.class_format.specs.Spelling.{Member}
+use Rattle.class_format.specs.Flags.{is_native}
+use Rattle.class_format.proofs.Recursion.{all_of, by_recursion}
+use Rattle.link_rules.specs.declared.error.LinkWhy.{LinkWhy}
+use Rattle.link_rules.specs.Answers.{refused_if}
+use Rattle.link_rules.specs.Members.{is_wrong_method, wrong_field, wrong_method, wrong_members}
 use Rattle.link_rules.specs.Sizes.{HasFewMethods}
-use Rattle.link_image.specs.Methods.{count_methods}
+use Rattle.link_members.proofs.LoopLaws.{parts_none}
+use Rattle.link_image.specs.Methods.{count_methods, natives}
+use Rattle.link_image.specs.Parts.{count_natives, AreSmall}
+use Rattle.link_image.proofs.ListLaws.{all_more}
 use Rattle.link_image.specs.Sizes.{HasFewFields, IsShort, HasShortCode}
 
 pub few_fields : (f : ClassFile) → IsClass f → HasFewFields f
@@ -42,3 +52,56 @@ pub few_in_all : (all : List ClassFile) → length all < 2 ^ 15 → All HasFewMe
 few_in_all all n h =
     let l : count_methods all < length all * 65536 + 1 = (let s = sum_by-le (λ (f : ClassFile). length f.methods) 65536 all (λ i d q. let w = h i d q in omega arith) in omega arith) in
     omega arith
+
+-- ---- native methods
+
+not_refused : (b : Bool) (why : LinkWhy) (f : ClassFile) (other : List ℕ) → refused_if b why f other ≡ [] → b ≡ false
+not_refused true why f other e = absurd cc
+not_refused false why f other e = refl
+
+neither : (a b : Bool) → (a || b) ≡ false → a ≡ false
+neither true b e = absurd cc
+neither false b e = refl
+
+no_native : (f : ClassFile) (m : MethodItem) → wrong_method f m ≡ [] → is_native m.flags ≡ false
+unfolding wrong_method
+no_native f m e = neither (is_native m.flags) _ (not_refused (is_wrong_method f m) _ f _ e)
+
+no_natives : (f : ClassFile) (ms : List MethodItem) → flat_map (wrong_method f) ms ≡ [] → natives ms ≡ 0
+no_natives f [] e = refl
+no_natives f (m ∷ ms) e =
+    let parts = parts_none (wrong_method f m) (flat_map (wrong_method f) ms) e in
+    sum_by-cons (λ (x : MethodItem). cond (is_native x.flags) 1 0) m ms
+    ∙ ap (λ b. cond b 1 0 + natives ms) (no_native f m parts.0)
+    ∙ ap (λ n. 0 + n) (no_natives f ms parts.1)
+
+none_in_file : (f : ClassFile) → wrong_members f ≡ [] → natives f.methods ≡ 0
+unfolding wrong_members
+none_in_file f e = no_natives f f.methods (parts_none (flat_map (wrong_field f) f.fields) (flat_map (wrong_method f) f.methods) e).1
+
+-- files of which no member is refused have no native method
+pub none_native : (files : List ClassFile) → flat_map wrong_members files ≡ [] → count_natives files ≡ 0
+none_native [] e = refl
+none_native (f ∷ fs) e =
+    let parts = parts_none (wrong_members f) (flat_map wrong_members fs) e in
+    sum_by-cons (λ (x : ClassFile). natives x.methods) f fs
+    ∙ ap (λ n. n + count_natives fs) (none_in_file f parts.0)
+    ∙ ap (λ n. 0 + n) (none_native fs parts.1)
+
+-- ---- all classes
+
+-- class files of which some are there, and few; the others have no native method
+pub small_program : (boot files : List ClassFile) → 0 < length boot → length boot + length files < 2 ^ 15 → All IsClass boot → All IsClass files → count_natives boot < 256 → flat_map wrong_members files ≡ [] → AreSmall (boot ++ files)
+small_program boot files some few p q natives_few none =
+    let all : List ClassFile = boot ++ files in
+    let n : length all ≡ length boot + length files = length-append boot files in
+    let classes : AllByRecursion IsClass all = by_recursion IsClass all (All-append IsClass boot files p q) in
+    let less : length all < 2 ^ 15 = omega arith in
+    record {
+      some = omega arith;
+      few = less;
+      fields = all_of HasFewFields all (all_more IsClass HasFewFields all few_fields classes);
+      methods = few_in_all all less (all_of HasFewMethods all (all_more IsClass HasFewMethods all few_methods classes));
+      natives = let s = sum_by-append (λ (x : ClassFile). natives x.methods) boot files in let z = none_native files none in omega arith;
+      code = all_more IsClass HasShortCode all short_code classes;
+    }

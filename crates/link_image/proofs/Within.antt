@@ -38,7 +38,8 @@ use Rattle.link_image.specs.Fields.{base_of, field_info, field_infos, place_in}
 use Rattle.link_image.specs.Image.{method_number}
 use Rattle.link_image.specs.Methods.{count_methods, first_method, natives_before, class_methods, method_info, method_infos, natives, method_numbers, is_initialiser, clinit_number}
 use Rattle.link_image.specs.Targets.{Known, known, field_target, field_at, method_at, class_of, constant_of, op_target, placing, placed_target, caught, entry_target, method_targets, class_targets, all_targets}
-use Rattle.link_image.proofs.ClassLaws.{super_within, interfaces_within, type_within, class_within, number_within, count_infos}
+use Rattle.link_image.proofs.ClassLaws.{super_within, interfaces_within, type_within, count_infos}
+use Rattle.link_arrays.proofs.ArrayLaws.{number_within, class_within}
 use Rattle.link_image.proofs.ListLaws.{length_map_from, all_append, all_map, all_map_from, all_numbered, all_flat, all_option, all_at, all_more}
 
 -- a place that was found is that of an item
