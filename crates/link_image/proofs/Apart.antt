@@ -1,23 +1,20 @@
 -- No class of an image lies above itself, over superclasses, interfaces and parts of arrays.
-use Rattle.std.proofs.Common.{◌≡◌, ℕ, zero, suc, ◌+◌, ◌<◌, ◌≤◌, ◌⊎◌, inl, inr, Bool, true, false, List, [], ◌∷◌, ◌++◌, Option, Some, None, length, map, slice_get, slice_index, get_or, position, ap, sym, ◌∙◌, subst, refl, arith}
-use Rattle.std.specs.Prelude.{option_map, option_and_then, ◌==◌, ◌-◌, ◌&&◌, if◌then◌else◌}
-use Rattle.std.specs.List.{Contains, flat_map, filter_map, cons_option}
+use Rattle.std.proofs.Common.{◌≡◌, ℕ, zero, suc, ◌+◌, ◌<◌, ◌⊎◌, inl, inr, List, [], ◌∷◌, ◌++◌, Option, Some, None, length, map, slice_get, slice_index, get_or, ap, sym, ◌∙◌, subst, refl, arith}
+use Rattle.std.specs.Prelude.{option_map, option_and_then, ◌-◌}
+use Rattle.std.specs.List.{Contains, filter_map, cons_option}
 use Rattle.std.specs.Option.{option_to_list}
-use Rattle.std.proofs.lemmas.Bool.Decides.{nat_tests}
-use Rattle.std.proofs.lemmas.List.{length-map, length-append, get_or_append_left, get_or-append-add}
-use Rattle.std.proofs.lemmas.List.Quantifiers.{position-Some}
+use Rattle.std.proofs.lemmas.List.{length-map, get_or_append_left, get_or-append-add}
 use Rattle.std.proofs.lemmas.List.Elements.{All-contains, Contains-append_cases}
-use Rattle.std.proofs.lemmas.Option.{slice_get_within, get_or_from_slice_get, slice_get-get_or, slice_get-map}
+use Rattle.std.proofs.lemmas.Option.{slice_get_within, get_or_from_slice_get, slice_get-map}
 use Rattle.jvm_base.specs.declared.desc.Desc.{Desc}
-use Rattle.jvm_base.proofs.Options.{map_some, then_some, some_is, and_parts}
+use Rattle.jvm_base.proofs.Options.{map_some, some_is}
 use Rattle.class_format.specs.declared.class.ClassFile.{ClassFile}
 use Rattle.class_names.specs.Classes.{super_text}
 use Rattle.hierarchy.specs.Hierarchy.{row_of, IsRanked, Under}
 use Rattle.hierarchy.specs.Hierarchy.Under.{directly, over}
 use Rattle.link_rules.specs.Numbers.{number_of, super_row, interface_row, above_rows}
 use Rattle.link_arrays.proofs.ArrayLaws.{part_falls}
-use Rattle.link_arrays.specs.ArrayClasses.{array_number, elem_number, type_number, part_type, array_class, array_classes}
-use Rattle.program_image.specs.Signatures.{same_desc, same_elem}
+use Rattle.link_arrays.specs.ArrayClasses.{type_number, part_type, array_class, array_classes}
 use Rattle.program_image.specs.Subclass.{all_above}
 use Rattle.program_image.specs.declared.info.ClassInfo.{ClassInfo}
 use Rattle.link_image.specs.Classes.{super_number, class_info, declared_infos, class_infos}

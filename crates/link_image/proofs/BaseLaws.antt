@@ -1,9 +1,8 @@
 -- The first places of instance fields, class by class upwards.
-use Rattle.std.proofs.Common.{◌≡◌, ℕ, zero, suc, ◌+◌, ◌*◌, ◌<◌, ◌≤◌, ◌^◌, List, [], ◌∷◌, ◌++◌, Option, Some, None, map, length, slice_index, get_or, ap, sym, ◌∙◌, subst, refl, arith, inl, inr, ◌⊎◌, take, replicate}
+use Rattle.std.proofs.Common.{◌≡◌, ℕ, zero, suc, ◌+◌, ◌*◌, ◌<◌, ◌≤◌, ◌^◌, List, [], ◌∷◌, Option, Some, None, map, length, slice_index, get_or, ap, sym, ◌∙◌, subst, refl, arith, inl, inr, ◌⊎◌, take, replicate}
 use Rattle.std.specs.List.{All, Contains, flat_map, sum_by, filter_map, cons_option, count_by}
 use Rattle.std.specs.Option.{option_to_list}
 use Rattle.std.specs.Prelude.{slice_get}
-use Rattle.std.proofs.lemmas.Bool.{cases_lt}
 use Rattle.std.proofs.lemmas.List.{length-map, get_or_read, get_or_default}
 use Rattle.std.proofs.Math.Seq.{take-length}
 use Rattle.std.proofs.lemmas.Option.{slice_get_within, get_or_from_slice_get}
@@ -20,7 +19,7 @@ use Rattle.hierarchy.proofs.Under.{above_in}
 use Rattle.link_members.specs.declared.row_table.Step.TheVariants.{Super}
 use Rattle.link_members.proofs.RowLaws.{rows_within}
 use Rattle.link_image.specs.Kept.Bases.{AreKnown}
-use Rattle.link_rules.specs.Numbers.{number_of, super_row, super_rows, supers_of, fields_at}
+use Rattle.link_rules.specs.Numbers.{number_of, super_row, super_rows}
 use Rattle.link_image.specs.Fields.{is_instance, instances_at, base_of}
 use Rattle.link_image.specs.Sizes.{HasFewFields}
 

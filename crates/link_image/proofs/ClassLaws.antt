@@ -1,26 +1,21 @@
 -- Numbers of classes are below their count.
-use Rattle.std.proofs.Common.{◌≡◌, ℕ, zero, suc, ◌+◌, ◌<◌, ◌≤◌, Bool, true, false, List, [], ◌∷◌, ◌++◌, Option, Some, None, length, map, slice_get, get_or, position, ap, sym, ◌∙◌, subst, refl, arith}
-use Rattle.std.specs.Prelude.{option_map, option_and_then, ◌==◌, ◌-◌, if◌then◌else◌}
-use Rattle.std.specs.List.{AllByRecursion, flat_map, filter_map, cons_option}
+use Rattle.std.proofs.Common.{◌≡◌, ℕ, ◌+◌, ◌<◌, Bool, true, false, List, ◌++◌, Some, length, ap, ◌∙◌, arith}
+use Rattle.std.specs.Prelude.{◌==◌, if◌then◌else◌}
+use Rattle.std.specs.List.{AllByRecursion}
 use Rattle.std.specs.Option.{option_to_list}
 use Rattle.std.proofs.lemmas.List.{length-map, length-append}
-use Rattle.std.proofs.lemmas.List.Quantifiers.{position-Some}
 use Rattle.jvm_base.specs.declared.desc.Desc.{Desc}
 use Rattle.jvm_base.specs.declared.desc.Elem.{Elem}
 use Rattle.jvm_base.specs.declared.desc.Elem.TheVariants.{Object}
-use Rattle.jvm_base.specs.Descriptors.{desc_of}
-use Rattle.jvm_base.proofs.Options.{map_some, then_some, some_is}
+use Rattle.jvm_base.proofs.Options.{then_some}
 use Rattle.class_format.specs.declared.class.ClassFile.{ClassFile}
-use Rattle.class_names.specs.Known.{is_name}
-use Rattle.class_names.specs.Texts.{is_array}
-use Rattle.class_names.specs.Classes.{this_name, super_text, interface_texts}
+use Rattle.class_names.specs.Classes.{super_text, interface_texts}
 use Rattle.link_rules.specs.Numbers.{number_of, super_row, interface_row}
 use Rattle.link_arrays.proofs.ArrayLaws.{number_within, array_within}
-use Rattle.link_arrays.specs.ArrayClasses.{array_number, elem_number, type_number, class_number, part_type, array_class, array_classes}
-use Rattle.program_image.specs.Signatures.{same_desc}
+use Rattle.link_arrays.specs.ArrayClasses.{array_number, elem_number, type_number, array_class, array_classes}
 use Rattle.program_image.specs.declared.info.ClassInfo.{ClassInfo}
 use Rattle.link_image.specs.Classes.{super_number, class_info, declared_infos, class_infos}
-use Rattle.link_image.proofs.ListLaws.{length_map_from, all_append, all_filtered, all_option}
+use Rattle.link_image.proofs.ListLaws.{length_map_from, all_append, all_filtered}
 
 pub super_within : (all : List ClassFile) (f : ClassFile) (k : ℕ) → super_number all f ≡ Some k → k < length all
 super_within all f k e = let t = then_some (number_of all) (super_text f) k e in number_within all t.0 k t.2

@@ -1,5 +1,5 @@
 -- Counts of methods and of native methods, class by class.
-use Rattle.std.proofs.Common.{◌≡◌, ℕ, ◌+◌, ◌<◌, ◌≤◌, List, Some, length, slice_get, slice_index, get_or, map, ap, sym, ◌∙◌, refl}
+use Rattle.std.proofs.Common.{◌≡◌, ℕ, ◌+◌, ◌≤◌, List, Some, length, slice_get, slice_index, get_or, ap, sym, ◌∙◌, refl}
 use Rattle.std.proofs.lemmas.Option.{get_or_from_slice_get, slice_get-map}
 use Rattle.std.specs.Prelude.{option_map}
 use Rattle.class_format.specs.declared.class.ClassFile.{ClassFile}

@@ -1,5 +1,5 @@
 -- The number of a declared method stands in the list of its class.
-use Rattle.std.proofs.Common.{◌≡◌, ℕ, zero, suc, ◌+◌, ◌<◌, List, [], ◌∷◌, ◌++◌, Option, Some, None, length, slice_get, get_or, ap, sym, ◌∙◌, subst, refl, arith}
+use Rattle.std.proofs.Common.{◌≡◌, ℕ, zero, suc, ◌+◌, ◌<◌, List, [], ◌∷◌, ◌++◌, Option, Some, None, length, slice_get, get_or, ap, ◌∙◌, refl, arith}
 use Rattle.std.specs.Prelude.{option_map}
 use Rattle.std.proofs.lemmas.Option.{get_or_from_slice_get}
 use Rattle.jvm_base.specs.Words.{from}
@@ -12,7 +12,7 @@ use Rattle.link_arrays.specs.ArrayClasses.{array_classes}
 use Rattle.program_image.specs.declared.info.ClassInfo.{ClassInfo}
 use Rattle.link_image.specs.Classes.{class_info, declared_infos, class_infos}
 use Rattle.link_image.specs.Image.{method_number}
-use Rattle.link_image.specs.Methods.{first_method, method_numbers}
+use Rattle.link_image.specs.Methods.{first_method}
 use Rattle.link_image.proofs.ListLaws.{get_map_from, length_map_from}
 use Rattle.link_image.proofs.Steps.{item_at, item_there}
 

@@ -1,6 +1,5 @@
 -- Places of targets rise, so that none stands twice.
-use Rattle.std.proofs.Common.{◌≡◌, ℕ, zero, suc, ◌+◌, ◌*◌, ◌<◌, ◌≤◌, List, [], ◌∷◌, ◌++◌, Option, Some, None, length, slice_get, ap, sym, ◌∙◌, subst, refl, arith}
-use Rattle.std.proofs.lemmas.Option.{slice_get_within}
+use Rattle.std.proofs.Common.{◌≡◌, ℕ, zero, suc, ◌+◌, ◌*◌, ◌<◌, ◌≤◌, List, [], ◌∷◌, ◌++◌, Option, Some, None, length, slice_get, ap, subst, refl, arith}
 use Rattle.program_image.specs.Places.{Placing}
 use Rattle.program_image.specs.Condition.{place_of, Differ}
 use Rattle.program_image.specs.declared.info.Target.{Target}

@@ -1,5 +1,5 @@
 -- Loops over numbered lists, one turn at a time.
-use Rattle.std.proofs.Common.{◌≡◌, ℕ, zero, suc, ◌+◌, ◌<◌, List, [], ◌∷◌, ◌++◌, length, drop, get_or, ap, sym, ◌∙◌, subst, refl, append_assoc, append-nil, add-one, drop-cons, reverse, length-drop, arith, map, take, Option, Some, None, slice_get, ◌≤◌}
+use Rattle.std.proofs.Common.{◌≡◌, ℕ, zero, suc, ◌+◌, ◌<◌, List, [], ◌∷◌, ◌++◌, length, drop, get_or, ap, sym, ◌∙◌, refl, append_assoc, append-nil, add-one, drop-cons, reverse, length-drop, arith, map, take, Some, None, slice_get, ◌≤◌}
 use Rattle.std.specs.Prelude.{Bool, true, false, if◌then◌else◌}
 use Rattle.std.specs.List.{sum_by, count_by}
 use Rattle.std.proofs.Math.ListN.{get_or-map, drop_of_length-le}

@@ -1,31 +1,29 @@
 -- The places of the targets of a program rise.
-use Rattle.std.proofs.Common.{◌≡◌, ℕ, zero, suc, ◌+◌, ◌*◌, ◌<◌, ◌≤◌, ◌^◌, List, [], ◌∷◌, ◌++◌, Option, Some, None, Result, Ok, Err, length, take, slice_get, ap, sym, ◌∙◌, subst, refl, arith, append_assoc}
+use Rattle.std.proofs.Common.{◌≡◌, ℕ, suc, ◌+◌, ◌*◌, List, [], ◌∷◌, ◌++◌, Option, Some, None, Result, Ok, Err, length, ap, sym, ◌∙◌, subst, refl, arith, append_assoc}
 use Rattle.std.specs.Prelude.{option_and_then}
-use Rattle.std.specs.List.{flat_map, sum_by, All, AllByRecursion}
+use Rattle.std.specs.List.{flat_map, AllByRecursion}
 use Rattle.std.proofs.lemmas.List.{length-append}
 use Rattle.std.proofs.lemmas.List.Sums.{sum_by-append, sum_by_push}
 use Rattle.std.proofs.Math.Seq.{take-append_seam}
 use Rattle.jvm_base.specs.Words.{from}
 use Rattle.jvm_base.specs.declared.code_item.CodeItem.{CodeItem}
 use Rattle.jvm_base.specs.declared.pool.PoolItem.{PoolItem}
-use Rattle.jvm_base.specs.Told.{Gives, itself}
 use Rattle.class_format.specs.declared.class.ClassFile.{ClassFile}
 use Rattle.class_format.specs.declared.class.MethodItem.{MethodItem}
-use Rattle.class_names.specs.Classes.{ok_of, code_of, ops_of, table_of}
+use Rattle.class_names.specs.Classes.{ok_of, ops_of, table_of}
 use Rattle.code_table.specs.declared.code.Code.{Code}
 use Rattle.code_table.specs.declared.code.Placed.{Placed}
 use Rattle.code_table.specs.declared.error.CodeErr.{CodeErr}
 use Rattle.code_table.specs.Decoded.{decoded}
-use Rattle.code_table.specs.Sequences.{Leads, Covers, EndsWithin}
+use Rattle.code_table.specs.Sequences.{Leads}
 use Rattle.code_table.proofs.ReadAt.{instruction_within}
 use Rattle.code_table.proofs.Acceptance.{is_code}
-use Rattle.program_image.specs.Places.{Placing}
 use Rattle.program_image.specs.Condition.{place_of, Differ}
 use Rattle.link_rules.specs.Numbers.{numbered}
 use Rattle.link_image.specs.Methods.{count_methods, first_method}
 use Rattle.link_image.specs.Sizes.{IsShort, HasShortCode}
-use Rattle.link_image.specs.Targets.{Known, placing, op_target, placed_target, caught, entry_target, method_targets, class_targets, all_targets}
-use Rattle.link_image.proofs.Rising.{key, Rises, rises_from, rises_to, rises_append, rises_placing, rises_numbered, places_differ}
+use Rattle.link_image.specs.Targets.{Known, op_target, placed_target, caught, entry_target, method_targets, class_targets, all_targets}
+use Rattle.link_image.proofs.Rising.{Rises, rises_from, rises_to, rises_append, rises_placing, rises_numbered, places_differ}
 
 -- instructions that lead from one address to another
 leads_rise : (k : Known) (f : ClassFile) (m : ℕ) (code : List ℕ) (pool : List PoolItem) (at : ℕ) (ps : List Placed) (to : ℕ) → Leads code pool at ps to → Rises (m * 4294967296 + at) (m * 4294967296 + to) (flat_map (placed_target k f m) ps)

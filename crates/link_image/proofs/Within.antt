@@ -1,26 +1,25 @@
 -- Each number in the lists of an image is below its count.
-use Rattle.std.proofs.Common.{◌≡◌, ℕ, zero, suc, ◌+◌, ◌<◌, ◌≤◌, ◌^◌, Bool, true, false, List, [], ◌∷◌, ◌++◌, Option, Some, None, length, map, take, slice_get, get_or, position, ap, sym, ◌∙◌, subst, refl, arith}
+use Rattle.std.proofs.Common.{◌≡◌, ℕ, ◌+◌, ◌<◌, Bool, true, false, List, [], ◌∷◌, ◌++◌, Option, Some, None, length, map, take, slice_get, get_or, position, ap, sym, ◌∙◌, subst, refl, arith}
 use Rattle.std.specs.Prelude.{option_map, option_and_then, ◌==◌, ◌||◌, if◌then◌else◌}
-use Rattle.std.specs.List.{All, AllByRecursion, flat_map, sum_by}
+use Rattle.std.specs.List.{All, AllByRecursion, flat_map}
 use Rattle.std.specs.Option.{option_to_list}
 use Rattle.std.proofs.lemmas.List.{length-map, length-append}
 use Rattle.std.proofs.lemmas.List.Quantifiers.{position-Some}
 use Rattle.std.proofs.lemmas.List.Sums.{sum_by_more_le, sum_by-cons}
-use Rattle.std.proofs.lemmas.Option.{slice_get_within, get_or_from_slice_get, slice_get-get_or}
+use Rattle.std.proofs.lemmas.Option.{slice_get_within, get_or_from_slice_get}
 use Rattle.jvm_base.specs.Words.{from}
 use Rattle.jvm_base.specs.declared.code_item.TableItem.{TableItem}
 use Rattle.jvm_base.specs.declared.desc.Desc.{Desc}
-use Rattle.jvm_base.proofs.Options.{map_some, then_some, some_is}
+use Rattle.jvm_base.proofs.Options.{map_some, then_some}
 use Rattle.class_format.specs.declared.class.ClassFile.{ClassFile}
 use Rattle.class_format.specs.declared.class.MethodItem.{MethodItem}
 use Rattle.class_format.proofs.Recursion.{all_of}
 use Rattle.class_names.specs.Classes.{ops_of, table_of}
 use Rattle.class_names.specs.Texts.{is_array, class_text, member_in}
-use Rattle.code_table.specs.declared.code.Placed.{Placed}
 use Rattle.code_table.specs.declared.op.Op.{Op}
 use Rattle.code_table.specs.declared.op.Op.TheVariants as op
 use Rattle.hierarchy.specs.Hierarchy.{IsWithin}
-use Rattle.link_rules.specs.Numbers.{map_from, numbered, number_of, super_row, interface_row, methods_at}
+use Rattle.link_rules.specs.Numbers.{numbered, number_of, interface_row, methods_at}
 use Rattle.link_uses.specs.Lookups.{found_field, found_method}
 use Rattle.link_uses.specs.declared.lookup.Found.{Found}
 use Rattle.link_arrays.specs.ArrayClasses.{type_number, part_type, class_number, array_class, array_classes}
@@ -31,13 +30,13 @@ use Rattle.program_image.specs.declared.info.ClassInfo.{ClassInfo}
 use Rattle.program_image.specs.declared.info.FieldInfo.{FieldInfo}
 use Rattle.program_image.specs.declared.info.MethodInfo.{MethodInfo}
 use Rattle.program_image.specs.declared.info.Target.{Target}
-use Rattle.program_image.specs.declared.info.Target.TheVariants.{Field, Method, Class, Constant}
+use Rattle.program_image.specs.declared.info.Target.TheVariants.{Method, Class, Constant}
 use Rattle.link_image.specs.Classes.{super_number, class_info, declared_infos, class_infos}
 use Rattle.link_image.specs.Constants.{constant_value}
 use Rattle.link_image.specs.Fields.{base_of, field_info, field_infos, place_in}
 use Rattle.link_image.specs.Image.{method_number}
 use Rattle.link_image.specs.Methods.{count_methods, first_method, natives_before, class_methods, method_info, method_infos, natives, method_numbers, is_initialiser, clinit_number}
-use Rattle.link_image.specs.Targets.{Known, known, field_target, field_at, method_at, class_of, constant_of, op_target, placing, placed_target, caught, entry_target, method_targets, class_targets, all_targets}
+use Rattle.link_image.specs.Targets.{Known, known, field_target, field_at, method_at, op_target, placing, placed_target, caught, entry_target, method_targets, class_targets, all_targets}
 use Rattle.link_image.proofs.ClassLaws.{super_within, interfaces_within, type_within, count_infos}
 use Rattle.link_arrays.proofs.ArrayLaws.{number_within, class_within}
 use Rattle.link_image.proofs.ListLaws.{length_map_from, all_append, all_map, all_map_from, all_numbered, all_flat, all_option, all_at, all_more}

@@ -1,5 +1,5 @@
 -- The fields of a class, and the places of their values.
-use Rattle.std.specs.Prelude.{ℕ, ◌+◌, Bool, not, List, take, Option, option_and_then, slice_get, if◌then◌else◌}
+use Rattle.std.specs.Prelude.{ℕ, ◌+◌, Bool, not, List, take, option_and_then, if◌then◌else◌}
 use Rattle.std.specs.List.{count_by, sum_by}
 use Rattle.jvm_base.specs.Words.{from}
 use Rattle.jvm_base.specs.Descriptors.{desc_of}

@@ -1,5 +1,5 @@
 -- The methods of all classes, numbered through by class and by order of declaration.
-use Rattle.std.specs.Prelude.{ℕ, ◌+◌, Bool, ◌&&◌, List, [], length, take, Option, Some, None, option_map, position, codes, if◌then◌else◌}
+use Rattle.std.specs.Prelude.{ℕ, ◌+◌, Bool, ◌&&◌, List, [], length, take, Option, None, option_map, position, codes, if◌then◌else◌}
 use Rattle.std.specs.List.{count_by, sum_by}
 use Rattle.jvm_base.specs.Words.{from}
 use Rattle.jvm_base.specs.Descriptors.{method_of}

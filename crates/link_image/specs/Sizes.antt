@@ -1,6 +1,6 @@
 -- How large classes may be: counts in a class file take two bytes, and so does the length of code.
-use Rattle.std.specs.Prelude.{◌<◌, ◌^◌, List, length, Option, Some, None}
-use Rattle.std.specs.List.{All, AllByRecursion}
+use Rattle.std.specs.Prelude.{◌<◌, ◌^◌, length, Option, Some, None}
+use Rattle.std.specs.List.{AllByRecursion}
 use Rattle.jvm_base.specs.declared.code_item.CodeItem.{CodeItem}
 use Rattle.class_format.specs.declared.class.ClassFile.{ClassFile}
 

@@ -1,5 +1,5 @@
 -- What instructions and exception tables name, by the method's number and the address.
-use Rattle.std.specs.Prelude.{ℕ, ◌+◌, ◌==◌, ◌||◌, List, [], ◌∷◌, ◌++◌, length, map, Option, Some, None, option_map, option_and_then, slice_get, if◌then◌else◌}
+use Rattle.std.specs.Prelude.{ℕ, ◌+◌, ◌==◌, ◌||◌, List, ◌++◌, length, map, Option, None, option_map, option_and_then, slice_get, if◌then◌else◌}
 use Rattle.std.specs.List.{flat_map}
 use Rattle.std.specs.Option.{option_to_list}
 use Rattle.jvm_base.specs.declared.code_item.TableItem.{TableItem}
@@ -12,7 +12,7 @@ use Rattle.code_table.specs.declared.op.Op.{Op}
 use Rattle.code_table.specs.declared.op.Op.TheVariants as op
 use Rattle.class_names.specs.Classes.{ops_of, table_of}
 use Rattle.class_names.specs.Texts.{is_array, class_text, member_in}
-use Rattle.link_rules.specs.Numbers.{map_from, numbered, number_of}
+use Rattle.link_rules.specs.Numbers.{numbered, number_of}
 use Rattle.link_uses.specs.Lookups.{found_field, found_method}
 use Rattle.link_uses.specs.declared.lookup.Found.{Found}
 use Rattle.link_arrays.specs.ArrayClasses.{class_number}

@@ -1,9 +1,8 @@
-use Rattle.std.proofs.Common.{◌≡◌, ℕ, ◌+◌, ◌<◌, List, get_or, slice_index, length, arith}
+use Rattle.std.proofs.Common.{◌≡◌, ℕ, ◌<◌, List, get_or, slice_index, length, arith}
 use Rattle.class_format.specs.declared.class.ClassFile.{ClassFile}
 use Rattle.hierarchy.specs.Hierarchy.{row_of}
 use Rattle.link_rules.specs.Numbers.{super_rows}
-use Rattle.link_image.specs.Fields.{base_of}
-use Rattle.link_image.proofs.BaseLaws.{through, row_read, in_row, row_inside, sum_within, sum_whole, base_small, known_more}
+use Rattle.link_image.proofs.BaseLaws.{row_read, in_row, row_inside, sum_within, sum_whole, base_small, known_more}
 use Rattle.link_image.proofs.bases.+base.Goals as goal
 
 pub base-requires : goal.base-requires

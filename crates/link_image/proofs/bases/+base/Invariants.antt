@@ -1,4 +1,4 @@
-use Rattle.std.proofs.Common.{◌≡◌, length, take, slice_index}
+use Rattle.std.proofs.Common.{◌≡◌, take, slice_index}
 use Rattle.std.specs.List.{sum_by}
 use Rattle.link_image.specs.Kept.Bases.{AreKnown}
 use Rattle.link_image.proofs.BaseLaws.{through}

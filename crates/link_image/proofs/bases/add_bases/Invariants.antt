@@ -1,4 +1,4 @@
-use Rattle.std.proofs.Common.{◌≡◌, ◌++◌, length, drop}
+use Rattle.std.proofs.Common.{◌≡◌, ◌++◌, drop}
 use Rattle.link_rules.specs.Numbers.{map_from}
 use Rattle.link_image.specs.Fields.{base_of}
 use Rattle.link_image.specs.Kept.Bases.{AreKnown}

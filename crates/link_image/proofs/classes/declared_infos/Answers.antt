@@ -1,11 +1,10 @@
-use Rattle.std.proofs.Common.{◌≡◌, ℕ, ◌+◌, ◌++◌, ◌<◌, ◌≤◌, List, [], ◌∷◌, Option, Some, length, slice_get, slice_index, get_or, drop, ap, sym, ◌∙◌, arith}
+use Rattle.std.proofs.Common.{◌≡◌, ℕ, ◌+◌, ◌++◌, ◌<◌, ◌≤◌, List, Some, length, slice_get, get_or, drop, ap, sym, ◌∙◌, arith}
 use Rattle.std.proofs.lemmas.List.{length-map}
 use Rattle.std.proofs.lemmas.Option.{slice_get_within, get_or_from_slice_get}
 use Rattle.class_format.specs.declared.class.ClassFile.{ClassFile}
 use Rattle.link_rules.specs.Numbers.{map_from, interface_row}
 use Rattle.link_image.specs.Classes.{class_info, declared_infos}
 use Rattle.link_image.specs.Fields.{base_of}
-use Rattle.link_image.specs.Methods.{first_method}
 use Rattle.link_image.proofs.Counts.{first_zero, first_more, first_in, base_at, interfaces_at}
 use Rattle.link_image.proofs.ListLaws.{length_map_from}
 use Rattle.link_image.proofs.Steps.{not_past, map_more_at, map_end}

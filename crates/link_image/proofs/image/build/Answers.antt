@@ -1,4 +1,4 @@
-use Rattle.std.proofs.Common.{◌≡◌, ℕ, ◌+◌, ◌++◌, ◌<◌, ◌≤◌, List, length, ap, sym, ◌∙◌, subst, arith}
+use Rattle.std.proofs.Common.{◌≡◌, ℕ, List, ap, ◌∙◌}
 use Rattle.jvm_base.specs.declared.desc.Desc.{Desc}
 use Rattle.class_format.specs.declared.class.ClassFile.{ClassFile}
 use Rattle.program_image.specs.declared.info.ClassInfo.{ClassInfo}
@@ -8,7 +8,7 @@ use Rattle.link_uses.specs.declared.lookup.Found.{Found}
 use Rattle.link_image.specs.Classes.{class_infos}
 use Rattle.link_image.specs.Image.{image_of, method_number}
 use Rattle.link_image.specs.Methods.{method_infos}
-use Rattle.link_image.specs.Targets.{Known, known, all_targets}
+use Rattle.link_image.specs.Targets.{Known, all_targets}
 use Rattle.program_image.specs.Program.{program}
 use Rattle.link_image.proofs.IsImageLaw.{AreMade, made_image, made_program, ok_as}
 use Rattle.link_image.proofs.image.build.Goals as goal

@@ -1,10 +1,8 @@
-use Rattle.std.proofs.Common.{◌≡◌, ℕ, ◌+◌, ◌++◌, ◌<◌, List, [], ◌∷◌, Option, length, get_or, take, drop, map, reverse, ap, sym, ◌∙◌, subst, arith}
-use Rattle.class_format.specs.declared.class.ClassFile.{ClassFile}
+use Rattle.std.proofs.Common.{◌≡◌, ℕ, ◌+◌, ◌++◌, ◌<◌, List, length, get_or, take, drop, ap, sym, ◌∙◌, arith}
 use Rattle.class_format.specs.declared.class.MethodItem.{MethodItem}
 use Rattle.class_names.specs.Classes.{code_of}
-use Rattle.code_table.specs.declared.code.Code.{Code}
 use Rattle.link_rules.specs.Numbers.{map_from}
-use Rattle.link_image.specs.Methods.{natives, method_info, class_methods}
+use Rattle.link_image.specs.Methods.{natives, method_info}
 use Rattle.link_image.proofs.Steps.{popped_map, some_left_map, map_more, count_step}
 use Rattle.class_format.specs.Flags.{is_native}
 use Rattle.program_image.specs.declared.info.MethodInfo.{MethodInfo}
