@@ -1,5 +1,5 @@
 -- From the files of a call to its verdict.
-use Rattle.std.proofs.Common.{◌≡◌, ℕ, List, [], Option, Some, None, Ok, Err, refl, subst, inl, inr}
+use Rattle.std.proofs.Common.{◌≡◌, ℕ, List, [], Option, Some, None, Ok, Err, refl, sym, subst, inl, inr, ⊎_elim}
 use Rattle.cjvm_io.specs.Shelves.{Files}
 use Rattle.cjvm_io.specs.Sinks.{Showing}
 use Rattle.thin_file.specs.declared.thin.ThinCode.{ThinCode}
@@ -7,11 +7,13 @@ use Rattle.one_machine.specs.declared.state.Choice.{Choice}
 use Rattle.one_jvm.specs.declared.outcome.Stop.{Stop}
 use Rattle.one_jvm.specs.declared.outcome.Stop.TheVariants as stop
 use Rattle.one_jvm.specs.declared.outcome.Refusal.{Refusal}
-use Rattle.one_jvm.specs.declared.outcome.Refusal.TheVariants.{Usage, File, NoFile, ReadFault, WriteFault, TooLong, NotYet, NoMemory}
+use Rattle.one_jvm.specs.declared.outcome.Refusal.TheVariants.{Usage, File, Link, NoFile, ReadFault, WriteFault, TooLong, NotYet, NoMemory}
 use Rattle.one_jvm.specs.Words.{Asked, IsRun}
 use Rattle.one_jvm.specs.Verdicts.{Names, StopsAt, IsThinProgram, IsVerdict}
-use Rattle.one_jvm.specs.Answers.{Faults, IsAny, IsHindered, Because, Agrees, refusal_of}
-use Rattle.one_jvm.specs.Steps.Loading.{AreFound, RefusesProgram, LoadFails, Programs}
+use Rattle.one_jvm.specs.Answers.{Faults, IsAny, IsHindered, Because, Agrees, refusal_of, IsLinkText, IsSubject}
+use Rattle.one_jvm.specs.Steps.Loading.{AreFound, RefusesProgram, LoadFails, HasText, HasNoProgram, Programs}
+use Rattle.one_jvm.specs.Steps.Speaking.{IsToldOf, Speaks}
+use Rattle.one_jvm.specs.declared.loading.Refused.{Refused}
 use Rattle.one_jvm.specs.Runs.{RanTo}
 
 module _ (words : List (List ℕ)) (told : Option Files) (a : Asked) (run : IsRun words a) where
@@ -25,6 +27,7 @@ module _ (words : List (List ℕ)) (told : Option Files) (a : Asked) (run : IsRu
   verdict (TooLong k) f = names _ f
   verdict (File k why) f = names _ f
   verdict NotYet f = names _ f
+  verdict (Link e) f = names _ f
   verdict Usage f = absurd f.such
   verdict (ReadFault k) f = absurd f.such
   verdict WriteFault f = absurd f.such
@@ -35,6 +38,7 @@ module _ (words : List (List ℕ)) (told : Option Files) (a : Asked) (run : IsRu
   fails faults (ReadFault k) h = record { is_run = (a, run); hindrance = ReadFault k; strikes = record { rose = h.0; stops = names (λ main. StopsAt IsAny k) h.1 }; shows = refl }
   fails faults NoMemory h = record { is_run = (a, run); hindrance = NoMemory; strikes = tt; shows = refl }
   fails faults Usage h = absurd h
+  fails faults (Link e) h = absurd h
   fails faults (File k why) h = absurd h
   fails faults (NoFile k) h = absurd h
   fails faults (TooLong k) h = absurd h
@@ -42,9 +46,24 @@ module _ (words : List (List ℕ)) (told : Option Files) (a : Asked) (run : IsRu
   fails faults NotYet h = absurd h
 
   -- files that are refused
-  pub because_refused : (faults : Faults) (e : Refusal) → Programs told a faults.read_before faults.read_now (Err e) → Because words told faults (Some e)
-  because_refused faults e (inl f) = inl (verdict e f)
-  because_refused faults e (inr f) = inr (fails faults e f)
+  pub because_refused : (faults : Faults) (r : Refused) → Programs told a faults.read_before faults.read_now (Err r) → Because words told faults (Some r.refusal)
+  because_refused faults r p = ⊎_elim (λ f. inl (verdict r.refusal f)) (λ f. inr (fails faults r.refusal f)) p.cause
+
+  -- what is told of them
+  tells : (e : Refusal) (text : List ℕ) → HasText told a.files e text → IsToldOf told words (Some e) text
+  tells (Link e) text f = names (λ main. IsLinkText e text) f
+  tells NotYet text f = tt
+  tells NoMemory text f = tt
+  tells Usage text f = tt
+  tells (File k why) text f = tt
+  tells (NoFile k) text f = tt
+  tells (TooLong k) text f = tt
+  tells (ReadFault k) text f = tt
+  tells WriteFault text f = tt
+
+  -- what is told of files that are refused
+  pub told_refused : (f g : ℕ) (r : Refused) → Programs told a f g (Err r) → IsToldOf told words (Some r.refusal) r.text.items
+  told_refused f g r p = tells r.refusal r.text.items p.tells
 
   -- the words' files have the program
   pub has_program : (f g : ℕ) (code : ThinCode) → Programs told a f g (Ok code) → Names told words (IsThinProgram code)
@@ -59,10 +78,29 @@ module _ (words : List (List ℕ)) (told : Option Files) (a : Asked) (run : IsRu
   because_ran faults code order before now stop.NoMemory h b n r = inr (record { is_run = (a, run); hindrance = NoMemory; strikes = tt; shows = refl })
 
   -- files aren't refused for a write
-  no_write : (f g : ℕ) → Programs told a f g (Err WriteFault) → ⊥
-  no_write f g (inl x) = x.such
-  no_write f g (inr x) = x
+  no_write : (f g : ℕ) (text : List ℕ) → HasNoProgram told a f g WriteFault text → ⊥
+  no_write f g text p = ⊎_elim (λ x. x.such) (λ x. x) p.cause
 
   -- a refusal of files agrees with no run
-  pub agrees_refused : (f g : ℕ) (e : Refusal) → Programs told a f g (Err e) → Agrees None (Some e)
-  agrees_refused f g e h = (λ p. cc, λ p. let q : e ≡ WriteFault = cc in no_write f g (subst (λ (x : Refusal). Programs told a f g (Err x)) q h))
+  pub agrees_refused : (f g : ℕ) (r : Refused) → Programs told a f g (Err r) → Agrees None (Some r.refusal)
+  agrees_refused f g r h = (λ p. cc, λ p. let q : r.refusal ≡ WriteFault = cc in no_write f g r.text.items (subst (λ (x : Refusal). HasNoProgram told a f g x r.text.items) q h))
+
+-- a run tells nothing of linking
+pub told_ran : (told : Option Files) (words : List (List ℕ)) (s : Stop) (text : List ℕ) → IsToldOf told words (refusal_of s) text
+told_ran told words stop.Done text = tt
+told_ran told words stop.WriteFault text = tt
+told_ran told words stop.NoMemory text = tt
+
+-- what the report of a refusal speaks of
+pub subject : (told : Option Files) (words : List (List ℕ)) (v : Option Refusal) (text s : List ℕ) → IsToldOf told words v text → Speaks words v text s → IsSubject told words v s
+subject told words None text s t h = tt
+subject told words (Some (Link e)) text s t h =
+    subst (λ (x : List ℕ). Names told words (λ main contents. IsLinkText e x contents)) (sym h) t
+subject told words (Some (File k why)) text s t h = h
+subject told words (Some (NoFile k)) text s t h = h
+subject told words (Some (TooLong k)) text s t h = h
+subject told words (Some (ReadFault k)) text s t h = h
+subject told words (Some Usage) text s t h = h
+subject told words (Some WriteFault) text s t h = h
+subject told words (Some NotYet) text s t h = h
+subject told words (Some NoMemory) text s t h = h

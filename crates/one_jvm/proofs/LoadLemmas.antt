@@ -3,7 +3,7 @@ use Rattle.std.proofs.Common.{◌≡◌, ℕ, zero, suc, ◌≤◌, ◌<◌, ◌
 use Rattle.std.specs.Result.{IsErrAnd}
 use Rattle.std.specs.Prelude.{MatchResult, replicate, slice_get, option_map}
 use Rattle.std.proofs.lemmas.List.{length-append, length-map, map-append, length-replicate, append_assoc}
-use Rattle.std.specs.List.{take-map}
+use Rattle.std.specs.List.{take-map, All, AllByRecursion}
 use Rattle.std.proofs.Math.Seq.{get_or-append_seam, take-append_seam}
 use Rattle.std.proofs.lemmas.Option.{slice_get_within, slice_get_read, slice_get-map, slice_get-get_or, get_or_from_slice_get}
 use Rattle.jvm_base.specs.Words.{from}
@@ -11,7 +11,10 @@ use Rattle.std.proofs.lemmas.List.{length-take-le, take_more}
 use Rattle.cjvm_io.specs.Faults.{Rose}
 use Rattle.cjvm_io.specs.Shelves.{Files, bytes_under, HasLonger}
 use Rattle.class_format.specs.declared.class.ClassFile.{ClassFile}
-use Rattle.class_format.specs.Meaning.{Spells}
+use Rattle.class_format.specs.Meaning.{IsClass, Spells}
+use Rattle.class_format.proofs.Recursion.{all_of}
+use Rattle.class_file.proofs.PlainLaws.{is_class}
+use Rattle.one_jvm.specs.declared.loading.Refused.{Refused}
 use Rattle.class_file.specs.declared.error.ClassErr.{ClassErr}
 use Rattle.thin_file.specs.declared.thin.ThinCode.{ThinCode}
 use Rattle.thin_file.specs.declared.thin.ThinErr.{ThinErr}
@@ -19,11 +22,11 @@ use Rattle.thin_file.specs.declared.thin.ThinErr.TheVariants as thin
 use Rattle.thin_file.specs.Thin.{IsThin}
 use Rattle.one_jvm.specs.declared.loading.Loaded.{Loaded}
 use Rattle.one_jvm.specs.declared.outcome.Refusal.{Refusal}
-use Rattle.one_jvm.specs.declared.outcome.Refusal.TheVariants.{Usage, File, NoFile, ReadFault, WriteFault, TooLong, NotYet, NoMemory}
+use Rattle.one_jvm.specs.declared.outcome.Refusal.TheVariants.{Usage, File, Link, NoFile, ReadFault, WriteFault, TooLong, NotYet, NoMemory}
 use Rattle.one_jvm.specs.Words.{Asked, name_at}
-use Rattle.one_jvm.specs.Verdicts.{limit, IsMissing, IsLong, IsRefusedFile, IsClassFile, AreClassFiles, StopsAt, IsThinProgram, IsOtherProgram, AreUnder}
+use Rattle.one_jvm.specs.Verdicts.{limit, IsMissing, IsLong, IsRefusedFile, IsClassFile, AreClassFiles, StopsAt, AreLinked, IsThinProgram, IsOtherProgram, AreUnder}
 use Rattle.one_jvm.specs.Answers.{IsAny}
-use Rattle.one_jvm.specs.Steps.Loading.{IsUnder, IsFound, IsRead, RefusesBytes, RefusesFile, FailsAt, ReadsFile, AreFound, IsLast, AreRead, RefusesFiles, LoadFails, Loads, IsAlone, IsAccepted, IsNotRun, RefusesProgram, Programs}
+use Rattle.one_jvm.specs.Steps.Loading.{IsUnder, IsFound, IsRead, RefusesBytes, RefusesFile, FailsAt, ReadsFile, AreFound, IsLast, AreRead, RefusesFiles, LoadFails, Loads, refusals_of, IsOneThin, IsNotThin, IsAccepted, IsOther, IsNotRun, RefusesProgram, IsTextOf, IsTold, HasText, HasNoProgram, Programs}
 
 -- ---- one file
 
@@ -48,6 +51,7 @@ module _ (name : List ℕ) where
     loaded bytes_of bytes (Err (File k why)) has short h = inl (given told bytes (RefusesFile place (File k why)) has (h.0, record { bytes = bytes; has = refl; short = short; refused = h.1 }))
     loaded bytes_of bytes (Err NoMemory) has short h = inr tt
     loaded bytes_of bytes (Err Usage) has short h = absurd h
+    loaded bytes_of bytes (Err (Link l)) has short h = absurd h
     loaded bytes_of bytes (Err NotYet) has short h = absurd h
     loaded bytes_of bytes (Err WriteFault) has short h = absurd h
     loaded bytes_of bytes (Err (NoFile k)) has short h = absurd h
@@ -162,6 +166,7 @@ pub refused_at : (told : Option Files) (names : List (List ℕ)) (k : ℕ) (name
 refused_at told names k name classes bytes (NoFile j) at h f = stops_as told names k j name classes bytes IsMissing at h f
 refused_at told names k name classes bytes (TooLong j) at h f = stops_as told names k j name classes bytes IsLong at h f
 refused_at told names k name classes bytes (File j why) at h f = stops_as told names k j name classes bytes (IsRefusedFile why) at h f
+refused_at told names k name classes bytes (Link l) at h f = absurd f.such
 refused_at told names k name classes bytes Usage at h f = absurd f.such
 refused_at told names k name classes bytes (ReadFault j) at h f = absurd f.such
 refused_at told names k name classes bytes WriteFault at h f = absurd f.such
@@ -177,6 +182,7 @@ pub fails_at : (told : Option Files) (names : List (List ℕ)) (k : ℕ) (name :
 fails_at told names k name classes bytes before mid now (ReadFault j) at h l f =
     (rose_by before mid now l f.1, subst (λ (n : ℕ). AreFound told names (StopsAt IsAny n)) (sym f.0) (stops_at told names k name classes bytes IsAny at h (any_under told name)))
 fails_at told names k name classes bytes before mid now NoMemory at h l f = tt
+fails_at told names k name classes bytes before mid now (Link x) at h l f = absurd f
 fails_at told names k name classes bytes before mid now Usage at h l f = absurd f
 fails_at told names k name classes bytes before mid now (File j why) at h l f = absurd f
 fails_at told names k name classes bytes before mid now (NoFile j) at h l f = absurd f
@@ -214,49 +220,86 @@ named_at names k name lt e =
 -- ---- the program
 
 -- one content that was read is the last
-alone : (contents : List (Option (List ℕ))) (classes : List ClassFile) (bytes : List ℕ) → length contents ≡ 1 → AreRead classes bytes contents → (contents ≡ Some bytes ∷ []) × (length bytes ≤ limit)
+alone : (contents : List (Option (List ℕ))) (classes : List ClassFile) (bytes : List ℕ) → length contents ≡ 1 → AreRead classes bytes contents → contents ≡ Some bytes ∷ []
 alone [] classes bytes e r = absurd (omega arith)
 alone (x ∷ y ∷ contents) classes bytes e r = absurd (omega arith)
-alone (x ∷ []) [] bytes e r = absurd r.are
-alone (x ∷ []) (c ∷ classes) bytes e r =
-    let i = r.are.0 in
-    let both : Some i.bytes ≡ Some bytes = sym i.has ∙ r.last in
-    let same : i.bytes ≡ bytes = cc in
-    (ap (λ (z : Option (List ℕ)). z ∷ []) r.last, subst (λ (b : List ℕ). length b ≤ limit) same i.short)
+alone (x ∷ []) classes bytes e r = ap (λ (z : Option (List ℕ)). z ∷ []) r.last
+
+-- the classes of the files are linked
+linked : (told : Option Files) (a : Asked) (l : Loaded) (f : AreFound told a.files (AreRead l.classes l.bytes.items)) → refusals_of a l.classes ≡ [] → AreLinked a.main f.contents
+linked told a l f links = record { classes = l.classes; are = f.such.are; links = links }
 
 -- the files are a thin program
-pub thin_program : (told : Option Files) (a : Asked) (classes : List ClassFile) (bytes : List ℕ) (code : ThinCode) → AreFound told a.files (AreRead classes bytes) → IsAccepted a bytes code → AreFound told a.files (IsThinProgram code a.main)
-thin_program told a classes bytes code f h =
-    let one = alone f.contents classes bytes (AreUnder-length told a.files f.contents f.under ∙ h.alone.one) f.such in
-    record { contents = f.contents; under = f.under; such = record { plain = h.alone.plain; bytes = bytes; alone = one.0; short = one.1; thin = h.thin } }
-
--- they are none
-other_program : (told : Option Files) (a : Asked) (classes : List ClassFile) (bytes : List ℕ) → AreFound told a.files (AreRead classes bytes) → IsNotRun a bytes NotYet → AreFound told a.files (IsOtherProgram a.main)
-other_program told a classes bytes f n = record {
+thin_program : (told : Option Files) (a : Asked) (l : Loaded) (code : ThinCode) → AreFound told a.files (AreRead l.classes l.bytes.items) → IsAccepted a l code → AreFound told a.files (IsThinProgram code a.main)
+thin_program told a l code f h = record {
   contents = f.contents;
   under = f.under;
   such = record {
-    classes = classes;
-    are = f.such.are;
-    other = λ code t.
-        let len : length f.contents ≡ 1 = ap length t.alone in
-        let one = alone f.contents classes bytes len f.such in
-        let both : Some bytes ∷ [] ≡ Some t.bytes ∷ [] = sym one.0 ∙ t.alone in
-        let same : t.bytes ≡ bytes = cc in
-        n code (record { alone = record { plain = t.plain; one = sym (AreUnder-length told a.files f.contents f.under) ∙ len }; thin = subst (λ (b : List ℕ). IsThin b code) same t.thin });
+    linked = linked told a l f h.links;
+    file = record { bytes = l.bytes.items; alone = alone f.contents l.classes l.bytes.items (AreUnder-length told a.files f.contents f.under ∙ h.thin.one) f.such; thin = h.thin.thin };
   };
 }
 
+-- they are none
+other_program : (told : Option Files) (a : Asked) (l : Loaded) → AreFound told a.files (AreRead l.classes l.bytes.items) → IsOther a l → AreFound told a.files (IsOtherProgram a.main)
+other_program told a l f o = record {
+  contents = f.contents;
+  under = f.under;
+  such = record {
+    linked = linked told a l f o.links;
+    other = λ code t.
+        let len : length f.contents ≡ 1 = ap length t.alone in
+        let one = alone f.contents l.classes l.bytes.items len f.such in
+        let both : Some l.bytes.items ∷ [] ≡ Some t.bytes ∷ [] = sym one ∙ t.alone in
+        let same : t.bytes ≡ l.bytes.items = cc in
+        o.other code (record { one = sym (AreUnder-length told a.files f.contents f.under) ∙ len; thin = subst (λ (b : List ℕ). IsThin b code) same t.thin });
+  };
+}
+
+-- why the files have no program
+abbrev Cause : Option Files → Asked → ℕ → ℕ → Refusal → Type 0
+Cause told a before now e = AreFound told a.files (RefusesProgram a.main e) ⊎ LoadFails told a.files before now e
+
 -- a program that isn't run
-pub not_run : (told : Option Files) (a : Asked) (classes : List ClassFile) (bytes : List ℕ) (before now : ℕ) (e : Refusal) → AreFound told a.files (AreRead classes bytes) → IsNotRun a bytes e → Programs told a before now (Err e)
-not_run told a classes bytes before now NotYet f n = inl (other_program told a classes bytes f n)
-not_run told a classes bytes before now NoMemory f n = inr tt
-not_run told a classes bytes before now Usage f n = absurd n
-not_run told a classes bytes before now (File k why) f n = absurd n
-not_run told a classes bytes before now (NoFile k) f n = absurd n
-not_run told a classes bytes before now (TooLong k) f n = absurd n
-not_run told a classes bytes before now (ReadFault k) f n = absurd n
-not_run told a classes bytes before now WriteFault f n = absurd n
+not_run : (told : Option Files) (a : Asked) (l : Loaded) (before now : ℕ) (e : Refusal) → AreFound told a.files (AreRead l.classes l.bytes.items) → IsNotRun a l e → Cause told a before now e
+not_run told a l before now NotYet f n = inl (other_program told a l f n)
+not_run told a l before now (Link e) f n = inl (record { contents = f.contents; under = f.under; such = record { classes = l.classes; are = f.such.are; first = n } })
+not_run told a l before now NoMemory f n = inr tt
+not_run told a l before now Usage f n = absurd n
+not_run told a l before now (File k why) f n = absurd n
+not_run told a l before now (NoFile k) f n = absurd n
+not_run told a l before now (TooLong k) f n = absurd n
+not_run told a l before now (ReadFault k) f n = absurd n
+not_run told a l before now WriteFault f n = absurd n
+
+-- what is told of it
+has_text : (told : Option Files) (a : Asked) (l : Loaded) (e : Refusal) (text : List ℕ) → AreFound told a.files (AreRead l.classes l.bytes.items) → IsTextOf l.classes e text → HasText told a.files e text
+has_text told a l (Link e) text f h = record { contents = f.contents; under = f.under; such = record { classes = l.classes; are = f.such.are; is = h } }
+has_text told a l NotYet text f h = tt
+has_text told a l NoMemory text f h = tt
+has_text told a l Usage text f h = tt
+has_text told a l (File k why) text f h = tt
+has_text told a l (NoFile k) text f h = tt
+has_text told a l (TooLong k) text f h = tt
+has_text told a l (ReadFault k) text f h = tt
+has_text told a l WriteFault text f h = tt
+
+-- want of memory is no program, and tells nothing
+no_memory : (told : Option Files) (a : Asked) (before now : ℕ) (text : List ℕ) → HasNoProgram told a before now NoMemory text
+no_memory told a before now text = record { cause = inr tt; tells = tt }
+
+-- class files that aren't run have no program
+pub told_program : (told : Option Files) (a : Asked) (l : Loaded) (before now : ℕ) (e : Refusal) (r : Refused) → AreFound told a.files (AreRead l.classes l.bytes.items) → IsNotRun a l e → IsTold l.classes e r → Programs told a before now (Err r)
+told_program told a l before now e r f n (inl h) = record {
+  cause = subst (Cause told a before now) (sym h.0) (not_run told a l before now e f n);
+  tells = subst (λ (x : Refusal). HasText told a.files x r.text.items) (sym h.0) (has_text told a l e r.text.items f h.1);
+}
+told_program told a l before now e r f n (inr h) =
+    subst (λ (x : Refusal). HasNoProgram told a before now x r.text.items) (sym h) (no_memory told a before now r.text.items)
+
+-- those that are run have one
+pub run_program : (told : Option Files) (a : Asked) (l : Loaded) (before now : ℕ) (code : ThinCode) → AreFound told a.files (AreRead l.classes l.bytes.items) → IsAccepted a l code → Programs told a before now (Ok code)
+run_program told a l before now code f h = thin_program told a l code f h
 
 -- refused files have no program
 of_files : (main : Option (List ℕ)) (e : Refusal) (contents : List (Option (List ℕ))) → RefusesFiles e contents → RefusesProgram main e contents
@@ -264,20 +307,73 @@ of_files main (NoFile k) contents r = r
 of_files main (TooLong k) contents r = r
 of_files main (File k why) contents r = r
 of_files main NotYet contents r = absurd r
+of_files main (Link e) contents r = absurd r
 of_files main Usage contents r = absurd r
 of_files main (ReadFault k) contents r = absurd r
 of_files main WriteFault contents r = absurd r
 of_files main NoMemory contents r = absurd r
 
 -- files that can't be loaded have none
-pub not_loaded : (told : Option Files) (a : Asked) (before now : ℕ) (e : Refusal) → Loads told a.files before now (Err e) → Programs told a before now (Err e)
-not_loaded told a before now e (inl f) = inl (record { contents = f.contents; under = f.under; such = of_files a.main e f.contents f.such })
-not_loaded told a before now e (inr f) = inr f
+loads_cause : (told : Option Files) (a : Asked) (before now : ℕ) (e : Refusal) → Loads told a.files before now (Err e) → Cause told a before now e
+loads_cause told a before now e (inl f) = inl (record { contents = f.contents; under = f.under; such = of_files a.main e f.contents f.such })
+loads_cause told a before now e (inr f) = inr f
 
--- what is accepted, or isn't
-pub programs : (told : Option Files) (a : Asked) (classes : List ClassFile) (bytes : List ℕ) (before now : ℕ) (r : Result ThinCode Refusal) → AreFound told a.files (AreRead classes bytes) → MatchResult r (IsAccepted a bytes) (IsNotRun a bytes) → Programs told a before now r
-programs told a classes bytes before now (Ok code) f h = thin_program told a classes bytes code f h
-programs told a classes bytes before now (Err e) f h = not_run told a classes bytes before now e f h
+-- nothing of linking is told of them
+no_text : (told : Option Files) (a : Asked) (before now : ℕ) (e : Refusal) (text : List ℕ) → Loads told a.files before now (Err e) → HasText told a.files e text
+no_text told a before now (Link e) text (inl f) = absurd f.such
+no_text told a before now (Link e) text (inr f) = absurd f
+no_text told a before now NotYet text h = tt
+no_text told a before now NoMemory text h = tt
+no_text told a before now Usage text h = tt
+no_text told a before now (File k why) text h = tt
+no_text told a before now (NoFile k) text h = tt
+no_text told a before now (TooLong k) text h = tt
+no_text told a before now (ReadFault k) text h = tt
+no_text told a before now WriteFault text h = tt
+
+-- nor have files that can't be loaded
+pub not_loaded : (told : Option Files) (a : Asked) (before now : ℕ) (e : Refusal) (r : Refused) → r.refusal ≡ e → Loads told a.files before now (Err e) → Programs told a before now (Err r)
+not_loaded told a before now e r is h = record {
+  cause = subst (Cause told a before now) (sym is) (loads_cause told a before now e h);
+  tells = subst (λ (x : Refusal). HasText told a.files x r.text.items) (sym is) (no_text told a before now e r.text.items h);
+}
+
+-- ---- what linking is given
+
+-- classes that were read are class files
+are_classes : (contents : List (Option (List ℕ))) (classes : List ClassFile) → AreClassFiles contents classes → AllByRecursion IsClass classes
+are_classes [] [] a = tt
+are_classes [] (c ∷ classes) a = absurd a
+are_classes (x ∷ contents) [] a = absurd a
+are_classes (x ∷ contents) (c ∷ classes) a = (is_class a.0.spells.source c a.0.spells.means, are_classes contents classes a.1)
+
+-- as many as names
+as_many : (contents : List (Option (List ℕ))) (classes : List ClassFile) → AreClassFiles contents classes → length contents ≡ length classes
+as_many [] [] a = refl
+as_many [] (c ∷ classes) a = absurd a
+as_many (x ∷ contents) [] a = absurd a
+as_many (x ∷ contents) (c ∷ classes) a = ap suc (as_many contents classes a.1)
+
+-- so all of them are formed
+pub all_formed : (told : Option Files) (names : List (List ℕ)) (classes : List ClassFile) (bytes : List ℕ) → AreFound told names (AreRead classes bytes) → All IsClass classes
+all_formed told names classes bytes f = all_of IsClass classes (are_classes f.contents classes f.such.are)
+
+-- and there are few
+pub few_classes : (told : Option Files) (names : List (List ℕ)) (classes : List ClassFile) (bytes : List ℕ) → AreFound told names (AreRead classes bytes) → length names ≤ 1024 → length classes ≤ 1024
+few_classes told names classes bytes f few = omega (arith, as_many f.contents classes f.such.are, AreUnder-length told names f.contents f.under)
+
+-- linked classes are accepted where the one file is thin
+pub accepted : (a : Asked) (l : Loaded) (r : Result ThinCode Refusal) → refusals_of a l.classes ≡ [] → MatchResult r (IsOneThin a l.bytes.items) (IsNotThin a l.bytes.items) → MatchResult r (IsAccepted a l) (IsNotRun a l)
+accepted a l (Ok code) links h = record { links = links; thin = h }
+accepted a l (Err NotYet) links h = record { links = links; other = h }
+accepted a l (Err NoMemory) links h = tt
+accepted a l (Err (Link e)) links h = absurd h
+accepted a l (Err Usage) links h = absurd h
+accepted a l (Err (File k why)) links h = absurd h
+accepted a l (Err (NoFile k)) links h = absurd h
+accepted a l (Err (TooLong k)) links h = absurd h
+accepted a l (Err (ReadFault k)) links h = absurd h
+accepted a l (Err WriteFault) links h = absurd h
 
 -- an error isn't of two kinds
 pub not_both : (e : ThinErr) → e ≡ thin.NotThin → e ≡ thin.NoMemory → ⊥

@@ -10,12 +10,13 @@ use Rattle.class_file.specs.declared.error.ClassErr.{ClassErr}
 use Rattle.class_file.specs.Reading.Classes.{class_at}
 use Rattle.class_file.proofs.ClassLaws.{class_again}
 use Rattle.class_file.proofs.Refused.{refused_comes}
+use Rattle.link_rules.specs.declared.error.LinkErr.{LinkErr}
+use Rattle.class_link.specs.Refusals.{program_refusals}
 use Rattle.thin_file.specs.declared.thin.ThinCode.{ThinCode}
-use Rattle.thin_file.proofs.ThinClass.{is_class}
 use Rattle.one_jvm.specs.declared.outcome.Refusal.{Refusal}
-use Rattle.one_jvm.specs.declared.outcome.Refusal.TheVariants.{Usage, File, NoFile, ReadFault, WriteFault, TooLong, NotYet, NoMemory}
+use Rattle.one_jvm.specs.declared.outcome.Refusal.TheVariants.{Usage, File, Link, NoFile, ReadFault, WriteFault, TooLong, NotYet, NoMemory}
 use Rattle.one_jvm.specs.Words.{Asked, IsRun, IsNoRun}
-use Rattle.one_jvm.specs.Verdicts.{limit, IsMissing, IsLong, IsRefusedFile, IsClassFile, AreClassFiles, StopsAt, IsThinProgram, IsOtherProgram, Names, IsVerdict}
+use Rattle.one_jvm.specs.Verdicts.{limit, IsMissing, IsLong, IsRefusedFile, IsClassFile, AreClassFiles, StopsAt, main_of, AreLinked, AreRefused, IsThinFile, IsThinProgram, IsOtherProgram, Names, IsVerdict}
 use Rattle.one_jvm.specs.Outcomes.{status_of}
 use Rattle.one_jvm.proofs.WordLemmas.{one_run}
 
@@ -108,13 +109,17 @@ stop_read n (suc k) (x ∷ contents) content (c ∷ classes) e at a r =
 
 -- ---- the stages
 
--- class files are one thin file or aren't
-abbrev AtThin : Option (List ℕ) → List (Option (List ℕ)) → Option Refusal → Type 0
-AtThin main contents = Tests (λ v. (v ≡ Some NotYet) × ((code : ThinCode) → ¬ IsThinProgram code main contents)) (λ (u : Unit {0}). (code : ThinCode) × IsThinProgram code main contents) (λ u v. v ≡ None)
+-- linked files are one thin file or aren't
+abbrev AtThin : List (Option (List ℕ)) → Option Refusal → Type 0
+AtThin contents = Tests (λ v. (v ≡ Some NotYet) × ((code : ThinCode) → ¬ IsThinFile code contents)) (λ (u : Unit {0}). (code : ThinCode) × IsThinFile code contents) (λ u v. v ≡ None)
+
+-- class files are linked or aren't
+abbrev AtLink : Option (List ℕ) → List (Option (List ℕ)) → List ClassFile → Option Refusal → Type 0
+AtLink main contents classes = Tests (λ v. (e : LinkErr) × (v ≡ Some (Link e)) × (slice_get (program_refusals classes (main_of main classes)) 0 ≡ Some e)) (λ (u : Unit {0}). program_refusals classes (main_of main classes) ≡ []) (λ u. AtThin contents)
 
 -- files are class files or aren't
 abbrev AtFiles : Option (List ℕ) → List (Option (List ℕ)) → Option Refusal → Type 0
-AtFiles main contents = Tests (λ v. (e : Refusal) × (v ≡ Some e) × (read_all 0 contents ≡ Err e)) (λ classes. read_all 0 contents ≡ Ok classes) (λ classes. AtThin main contents)
+AtFiles main contents = Tests (λ v. (e : Refusal) × (v ≡ Some e) × (read_all 0 contents ≡ Err e)) (λ classes. read_all 0 contents ≡ Ok classes) (λ classes. AtLink main contents classes)
 
 -- what there is under the names of the files
 abbrev contents_of : Files → Asked → List (Option (List ℕ))
@@ -126,8 +131,24 @@ AtWords fs words = Tests (λ v. (v ≡ Some Usage) × IsNoRun words) (IsRun word
 
 -- ---- each stage has one verdict at most
 
-one_at_thin : (main : Option (List ℕ)) (contents : List (Option (List ℕ))) (v w : Option Refusal) → AtThin main contents v → AtThin main contents w → v ≡ w
-one_at_thin main contents = one_stage _ _ _ (λ v w p q. p.0 ∙ sym q.0) (λ a b p q. refl) (λ v a p t. p.1 t.0 t.1) (λ a v w t p q. p ∙ sym q)
+one_at_thin : (contents : List (Option (List ℕ))) (v w : Option Refusal) → AtThin contents v → AtThin contents w → v ≡ w
+one_at_thin contents = one_stage _ _ _ (λ v w p q. p.0 ∙ sym q.0) (λ a b p q. refl) (λ v a p t. p.1 t.0 t.1) (λ a v w t p q. p ∙ sym q)
+
+-- a list has one first item
+one_first : (xs : List LinkErr) (d e : LinkErr) → slice_get xs 0 ≡ Some d → slice_get xs 0 ≡ Some e → d ≡ e
+one_first xs d e p q = let both : Some d ≡ Some e = sym p ∙ q in cc
+
+-- an empty one has none
+no_first : (xs : List LinkErr) (e : LinkErr) → slice_get xs 0 ≡ Some e → xs ≡ [] → ⊥
+no_first [] e p q = absurd cc
+no_first (x ∷ xs) e p q = absurd cc
+
+one_at_link : (main : Option (List ℕ)) (contents : List (Option (List ℕ))) (classes : List ClassFile) (v w : Option Refusal) → AtLink main contents classes v → AtLink main contents classes w → v ≡ w
+one_at_link main contents classes = one_stage _ _ _
+    (λ v w p q. p.1 ∙ ap (λ (e : LinkErr). Some (Link e)) (one_first (program_refusals classes (main_of main classes)) p.0 q.0 p.2 q.2) ∙ sym q.1)
+    (λ a b p q. refl)
+    (λ v a p l. no_first (program_refusals classes (main_of main classes)) p.0 p.2 l)
+    (λ a v w l p q. one_at_thin contents v w p q)
 
 -- a reading answers one error
 same_error : (r : Result (List ClassFile) Refusal) (d e : Refusal) → r ≡ Err d → r ≡ Err e → d ≡ e
@@ -146,7 +167,7 @@ one_at_files main contents = one_stage _ _ _
     (λ v w p q. p.1 ∙ ap (λ (e : Refusal). Some e) (same_error (read_all 0 contents) p.0 q.0 p.2 q.2) ∙ sym q.1)
     (λ a b p q. same_classes (read_all 0 contents) a b p q)
     (λ v a p c. not_both (read_all 0 contents) p.0 a p.2 c)
-    (λ a v w c p q. one_at_thin main contents v w p q)
+    (λ a v w c p q. one_at_link main contents a v w p q)
 
 one_at_words : (fs : Files) (words : List (List ℕ)) (v w : Option Refusal) → AtWords fs words v → AtWords fs words w → v ≡ w
 one_at_words fs words = one_stage _ _ _
@@ -168,20 +189,18 @@ module _ (fs : Files) (words : List (List ℕ)) where
       let place : 0 + k ≡ k = omega arith in
       inl (e, refl, stop_read 0 k contents s.content s.classes e s.at s.before (ap (λ (m : ℕ). read_at m s.content) place ∙ read s.content s.such)))
 
-  -- one thin file
-  at_thin : (code : ThinCode) (main : Option (List ℕ)) (contents : List (Option (List ℕ))) → IsThinProgram code main contents → AtFiles main contents None
-  at_thin code main contents t =
-      let c = is_class t.bytes code t.thin in
-      let are : AreClassFiles (Some t.bytes ∷ []) (c.0 ∷ []) = (record { bytes = t.bytes; has = refl; short = t.short; spells = c.1 }, tt) in
-      inr (c.0 ∷ [], ap (read_all 0) t.alone ∙ classes_read 0 (Some t.bytes ∷ []) (c.0 ∷ []) are, inr (tt, (code, t), refl))
+  -- class files that are linked go on
+  at_linked : (main : Option (List ℕ)) (contents : List (Option (List ℕ))) (v : Option Refusal) → AreLinked main contents → AtThin contents v → AtFiles main contents v
+  at_linked main contents v l rest = inr (l.classes, classes_read 0 contents l.classes l.are, inr (tt, l.links, rest))
 
   at_words : (v : Option Refusal) → IsVerdict (Some fs) words v → AtWords fs words v
-  at_words None h = at_names (IsThinProgram h.0) None (at_thin h.0) h.1
+  at_words None h = at_names (IsThinProgram h.0) None (λ main contents t. at_linked main contents None t.linked (inr (tt, (h.0, t.file), refl))) h.1
+  at_words (Some (Link e)) h = at_names (AreRefused e) (Some (Link e)) (λ main contents r. inr (r.classes, classes_read 0 contents r.classes r.are, inl (e, refl, r.first))) h
   at_words (Some Usage) h = inl (refl, h)
   at_words (Some (NoFile k)) h = at_stop IsMissing k (NoFile k) (missing_read k) h
   at_words (Some (TooLong k)) h = at_stop IsLong k (TooLong k) (long_read k) h
   at_words (Some (File k why)) h = at_stop (IsRefusedFile why) k (File k why) (λ content. refused_read k content why) h
-  at_words (Some NotYet) h = at_names IsOtherProgram (Some NotYet) (λ main contents o. inr (o.classes, classes_read 0 contents o.classes o.are, inl (refl, o.other))) h
+  at_words (Some NotYet) h = at_names IsOtherProgram (Some NotYet) (λ main contents o. at_linked main contents (Some NotYet) o.linked (inl (refl, o.other))) h
   at_words (Some (ReadFault k)) h = absurd h
   at_words (Some WriteFault) h = absurd h
   at_words (Some NoMemory) h = absurd h

@@ -9,9 +9,9 @@ use Rattle.cjvm_io.specs.Sinks.{Showing}
 use Rattle.one_jvm.specs.declared.outcome.Stop.{Stop}
 use Rattle.one_jvm.specs.declared.outcome.Stop.TheVariants as stop
 use Rattle.one_jvm.specs.declared.outcome.Refusal.{Refusal}
-use Rattle.one_jvm.specs.declared.outcome.Refusal.TheVariants.{Usage, File, NoFile, ReadFault, WriteFault, TooLong, NotYet, NoMemory}
+use Rattle.one_jvm.specs.declared.outcome.Refusal.TheVariants.{Usage, File, Link, NoFile, ReadFault, WriteFault, TooLong, NotYet, NoMemory}
 use Rattle.one_jvm.specs.Words.{IsNoRun}
-use Rattle.one_jvm.specs.Verdicts.{LacksFile, HasLongFile, HasOtherFiles, HasRefusedFile, HasThinFile, IsVerdict}
+use Rattle.one_jvm.specs.Verdicts.{LacksFile, HasLongFile, HasOtherFiles, IsRefusedCall, HasThinFile, IsVerdict}
 use Rattle.one_jvm.specs.Outcomes.{status_of}
 use Rattle.one_jvm.specs.Answers.{Faults, IsHindrance, IsHindered, Because, Agrees, OneOf, hindered, Exactly, Answers, IsClosed}
 use Rattle.one_jvm.proofs.OneVerdict.{one_status}
@@ -32,7 +32,7 @@ data Cause : Type 0 where
 abbrev holds : Cause → Option Files → List (List ℕ) → Type 0
 holds Accepted told words = HasThinFile told words
 holds Misused told words = IsNoRun words
-holds Refused told words = HasRefusedFile told words
+holds Refused told words = IsRefusedCall told words
 holds Missing told words = LacksFile told words
 holds Long told words = HasLongFile told words
 holds Other told words = HasOtherFiles told words
@@ -48,7 +48,8 @@ cause_of k =
 caused : (told : Option Files) (words : List (List ℕ)) (v : Option Refusal) → IsVerdict told words v → holds (cause_of (status_of v)) told words
 caused told words None h = h
 caused told words (Some Usage) h = h
-caused told words (Some (File k why)) h = (k, why, h)
+caused told words (Some (File k why)) h = inl (k, why, h)
+caused told words (Some (Link e)) h = inr (e, h)
 caused told words (Some (NoFile k)) h = (k, h)
 caused told words (Some (TooLong k)) h = (k, h)
 caused told words (Some NotYet) h = h
@@ -63,6 +64,7 @@ strikes told words faults WriteFault h = inr (inl refl)
 strikes told words faults NoMemory h = inr (inr (inl refl))
 strikes told words faults Usage h = absurd h
 strikes told words faults (File k why) h = absurd h
+strikes told words faults (Link x) h = absurd h
 strikes told words faults (NoFile k) h = absurd h
 strikes told words faults (TooLong k) h = absurd h
 strikes told words faults NotYet h = absurd h
@@ -74,6 +76,7 @@ read_rose told words faults WriteFault h e = absurd (omega arith)
 read_rose told words faults NoMemory h e = absurd (omega arith)
 read_rose told words faults Usage h e = absurd h
 read_rose told words faults (File k why) h e = absurd h
+read_rose told words faults (Link x) h e = absurd h
 read_rose told words faults (NoFile k) h e = absurd h
 read_rose told words faults (TooLong k) h e = absurd h
 read_rose told words faults NotYet h e = absurd h
@@ -85,6 +88,7 @@ write_rose told words faults WriteFault h e = h
 write_rose told words faults NoMemory h e = absurd (omega arith)
 write_rose told words faults Usage h e = absurd h
 write_rose told words faults (File k why) h e = absurd h
+write_rose told words faults (Link x) h e = absurd h
 write_rose told words faults (NoFile k) h e = absurd h
 write_rose told words faults (TooLong k) h e = absurd h
 write_rose told words faults NotYet h e = absurd h
@@ -101,11 +105,17 @@ apart (n ∷ ns) k e (inl p) =
     let q : false ≡ true = sym (or_parts (k == n) (has ns k) e).0 ∙ eq-eqb k n p in absurd cc
 apart (n ∷ ns) k e (inr o) = apart ns k (or_parts (k == n) (has ns k) e).1 o
 
+-- what is refused has a verdict
+refused_verdict : (fs : Files) (words : List (List ℕ)) → IsRefusedCall (Some fs) words → (v : Option Refusal) × IsVerdict (Some fs) words v × (status_of v ≡ 3)
+refused_verdict fs words (inl r) = (Some (File r.0 r.1), r.2, refl)
+refused_verdict fs words (inr r) = (Some (Link r.0), r.1, refl)
+
 -- words that are no command have their verdict
 no_run : (told : Option Files) (words : List (List ℕ)) (v : Option Refusal) → IsNoRun words → IsVerdict told words v → v ≡ Some Usage
 no_run told words None n h = absurd (n h.1.asked h.1.is_run)
 no_run told words (Some Usage) n h = refl
 no_run told words (Some (File k why)) n h = absurd (n h.asked h.is_run)
+no_run told words (Some (Link e)) n h = absurd (n h.asked h.is_run)
 no_run told words (Some (NoFile k)) n h = absurd (n h.asked h.is_run)
 no_run told words (Some (TooLong k)) n h = absurd (n h.asked h.is_run)
 no_run told words (Some NotYet) n h = absurd (n h.asked h.is_run)
@@ -155,8 +165,8 @@ module _ (words : List (List ℕ)) (told : Option Files) (faults : Faults) (plai
         (λ p. inr (inr (inl p))) shows;
   }
 
-  pub refused : Answers told words status 3 HasRefusedFile
-  refused = answers 3 (apart hindered 3 refl) (λ fs r. (Some (File r.0 r.1), r.2, refl))
+  pub refused : Answers told words status 3 IsRefusedCall
+  refused = answers 3 (apart hindered 3 refl) (λ fs r. refused_verdict fs words r)
 
   pub no_file : Answers told words status 4 LacksFile
   no_file = answers 4 (apart hindered 4 refl) (λ fs l. (Some (NoFile l.0), l.1, refl))
@@ -214,6 +224,7 @@ none_is : (refusal : Option Refusal) → status_of refusal ≡ 0 → refusal ≡
 none_is None e = refl
 none_is (Some Usage) e = absurd (omega arith)
 none_is (Some (File k why)) e = absurd (omega arith)
+none_is (Some (Link x)) e = absurd (omega arith)
 none_is (Some (NoFile k)) e = absurd (omega arith)
 none_is (Some (ReadFault k)) e = absurd (omega arith)
 none_is (Some WriteFault) e = absurd (omega arith)

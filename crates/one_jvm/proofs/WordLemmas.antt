@@ -1,5 +1,5 @@
 -- Words: an option among files.
-use Rattle.std.proofs.Common.{◌≡◌, ℕ, ◌+◌, ◌<◌, ◌==◌, Bool, true, false, ◌||◌, List, [], ◌∷◌, ◌++◌, length, get_or, take, drop, Option, Some, None, refl, sym, ap, subst, ◌∙◌, add-one, map, codes, arith}
+use Rattle.std.proofs.Common.{◌≡◌, ℕ, ◌+◌, ◌<◌, ◌==◌, Bool, true, false, ◌||◌, List, [], ◌∷◌, ◌++◌, length, get_or, take, drop, Option, Some, None, refl, sym, ap, subst, inl, inr, ◌⊎◌, ◌∙◌, add-one, map, codes, arith}
 use Rattle.std.specs.Prelude.{◌↔◌, string_bytes, String}
 use Rattle.std.specs.List.{list_any}
 use Rattle.std.proofs.Math.Seq.{drop-cons}
@@ -132,16 +132,13 @@ reads_nothing rest before behind e some p b n asked r =
 -- ---- the name in a report
 
 -- the name at the refusal's place
-pub named : (words : List (List ℕ)) (r : Option Refusal) (e : Refusal) (place : ℕ) (a : Asked) (name : List ℕ) → r ≡ Some e → Some place ≡ place_of e → IsRun words a → name ≡ name_at a.files place → IsNamed words r name
-named words r e place a name is at run n =
-    let P : Option Refusal → Type 0 = λ x. IsNamed words x name in
-    subst P (sym is) (λ b k h p.
+pub named : (words : List (List ℕ)) (e : Refusal) (place : ℕ) (a : Asked) (name : List ℕ) → Some place ≡ place_of e → IsRun words a → name ≡ name_at a.files place → IsNamed words e name
+named words e place a name at run n b k h p =
     let same : Some k ≡ Some place = sym p ∙ sym at in
     let k_is : k ≡ place = cc in
-    n ∙ ap (λ (x : Asked). name_at x.files place) (one_run words a b run h) ∙ ap (name_at b.files) (sym k_is))
+    n ∙ ap (λ (x : Asked). name_at x.files place) (one_run words a b run h) ∙ ap (name_at b.files) (sym k_is)
 
--- words that are no command name no file
-pub unnamed : (words : List (List ℕ)) (r : Option Refusal) (e : Refusal) (name : List ℕ) → r ≡ Some e → IsNoRun words → IsNamed words r name
-unnamed words r e name is n =
-    let P : Option Refusal → Type 0 = λ x. IsNamed words x name in
-    subst P (sym is) (λ b k h p. absurd (n b h))
+-- a refusal without a place names no file, and words that are no command name none
+pub unnamed : (words : List (List ℕ)) (e : Refusal) (name : List ℕ) → (None ≡ place_of e) ⊎ IsNoRun words → IsNamed words e name
+unnamed words e name (inl none) b k h p = let q : None ≡ Some k = none ∙ p in absurd cc
+unnamed words e name (inr n) b k h p = absurd (n b h)

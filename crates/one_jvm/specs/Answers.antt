@@ -4,15 +4,17 @@ use Rattle.std.specs.Io.KnownBytes.{Appends}
 use Rattle.cjvm_io.specs.Faults.{Rose}
 use Rattle.cjvm_io.specs.Shelves.{Files}
 use Rattle.cjvm_io.specs.Sinks.{Showing, GainsFront}
+use Rattle.class_format.specs.declared.class.ClassFile.{ClassFile}
+use Rattle.link_rules.specs.declared.error.LinkErr.{LinkErr}
 use Rattle.thin_file.specs.declared.thin.ThinCode.{ThinCode}
 use Rattle.one_machine.specs.declared.state.Choice.{Choice}
 use Rattle.one_jvm.specs.declared.outcome.Stop.{Stop}
 use Rattle.one_jvm.specs.declared.outcome.Stop.TheVariants as stop
 use Rattle.one_jvm.specs.declared.outcome.Refusal.{Refusal}
-use Rattle.one_jvm.specs.declared.outcome.Refusal.TheVariants.{Usage, File, NoFile, ReadFault, WriteFault, TooLong, NotYet, NoMemory}
+use Rattle.one_jvm.specs.declared.outcome.Refusal.TheVariants.{Usage, File, Link, NoFile, ReadFault, WriteFault, TooLong, NotYet, NoMemory}
 use Rattle.one_jvm.specs.Words.{Asked, IsRun, IsSomeRun, name_at}
-use Rattle.one_jvm.specs.Verdicts.{Names, StopsFor, IsThinProgram, IsVerdict}
-use Rattle.one_jvm.specs.Outcomes.{place_of, report}
+use Rattle.one_jvm.specs.Verdicts.{AreClassFiles, Names, StopsFor, IsThinProgram, IsVerdict}
+use Rattle.one_jvm.specs.Outcomes.{place_of, link_text, report}
 use Rattle.one_jvm.specs.Runs.{RanTo}
 
 -- ---- the cause of a refusal, apart from faults of standard error
@@ -51,6 +53,7 @@ IsHindrance told words faults WriteFault = Rose faults.wrote_before faults.wrote
 IsHindrance told words faults NoMemory = Unit {0}
 IsHindrance told words faults Usage = ⊥
 IsHindrance told words faults (File k why) = ⊥
+IsHindrance told words faults (Link e) = ⊥
 IsHindrance told words faults (NoFile k) = ⊥
 IsHindrance told words faults (TooLong k) = ⊥
 IsHindrance told words faults NotYet = ⊥
@@ -83,7 +86,8 @@ refusal_of stop.Done = None
 refusal_of stop.WriteFault = Some WriteFault
 refusal_of stop.NoMemory = Some NoMemory
 
--- a run was begun exactly where the files were read and are one thin file, want of memory aside
+-- a run was begun exactly where the files were read and are one thin file that is linked, want of
+-- memory aside
 abbrev pub Agrees : Option Stop → Option Refusal → Type 0
 Agrees (Some s) refusal = refusal ≡ refusal_of s
 Agrees None refusal = (refusal ≢ None) × (refusal ≢ Some WriteFault)
@@ -92,27 +96,40 @@ Agrees None refusal = (refusal ≢ None) × (refusal ≢ Some WriteFault)
 
 -- it gained the report whole; or a write to it failed, and it gained a front of it
 abbrev pub IsClosed : List ℕ → Option Refusal → Showing → Showing → Option Refusal → Type 0
-IsClosed name plain before now refusal =
-    ((refusal ≡ plain) × Appends before.held now.held (report name plain))
+IsClosed subject plain before now refusal =
+    ((refusal ≡ plain) × Appends before.held now.held (report subject plain))
     ⊎ ((refusal ≡ Some WriteFault) × Rose before.faults now.faults
-    × GainsFront before.held now.held (report name plain))
+    × GainsFront before.held now.held (report subject plain))
 
--- the file that the refusal names by its place has this name
-abbrev pub IsNamed : List (List ℕ) → Option Refusal → List ℕ → Type 0
-IsNamed words None name = Unit {0}
-IsNamed words (Some e) name =
+-- what a refusal of linking tells of the class files
+pub record IsLinkText (e : LinkErr) (text : List ℕ) (contents : List (Option (List ℕ)))
+    : Type 0 where
+  pub classes : List ClassFile
+  pub are : AreClassFiles contents classes
+  pub is : text ≡ link_text classes e
+
+-- the name of the file at the refusal's place
+abbrev pub IsNamed : List (List ℕ) → Refusal → List ℕ → Type 0
+IsNamed words e name =
     (asked : Asked) (k : ℕ) → IsRun words asked → place_of e ≡ Some k
     → name ≡ name_at asked.files k
+
+-- what the report of a refusal speaks of
+abbrev pub IsSubject : Option Files → List (List ℕ) → Option Refusal → List ℕ → Type 0
+IsSubject told words None subject = Unit {0}
+IsSubject told words (Some (Link e)) subject =
+    Names told words (λ main contents. IsLinkText e subject contents)
+IsSubject told words (Some e) subject = IsNamed words e subject
 
 -- a refusal with this cause, in accord with the run, was reported
 pub record Reports (words : List (List ℕ)) (told : Option Files) (faults : Faults)
     (before now : Showing) (stop : Option Stop) (refusal : Option Refusal) : Type 0 where
   pub plain : Option Refusal
-  pub name : List ℕ
+  pub subject : List ℕ
   pub cause : Because words told faults plain
   pub agrees : Agrees stop plain
-  pub named : IsNamed words plain name
-  pub closed : IsClosed name plain before now refusal
+  pub spoken : IsSubject told words plain subject
+  pub closed : IsClosed subject plain before now refusal
 
 -- ---- statuses
 

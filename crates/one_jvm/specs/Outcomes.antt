@@ -1,20 +1,32 @@
 -- Statuses and reports.
-use Rattle.std.specs.Prelude.{ℕ, codes, List, [], ◌∷◌, ◌++◌, Option, Some, None}
+use Rattle.std.specs.Prelude.{ℕ, codes, List, [], ◌∷◌, ◌++◌, slice_get, Option, Some, None}
+use Rattle.jvm_base.specs.Text.{text_bytes}
+use Rattle.jvm_base.specs.Words.{from}
+use Rattle.class_format.specs.declared.class.ClassFile.{ClassFile}
+use Rattle.class_format.specs.declared.class.MethodItem.{MethodItem}
+use Rattle.class_names.specs.Classes.{this_name}
+use Rattle.code_table.specs.Reasons as code
+use Rattle.link_rules.specs.declared.error.LinkErr.{LinkErr}
+use Rattle.link_rules.specs.declared.error.LinkErr.TheVariants.{Code, Bad, NoMemory}
+use Rattle.link_rules.specs.Members.{method_name, method_desc}
+use Rattle.link_rules.specs.Reasons.{why_text}
 use Rattle.class_file.specs.Reasons.{reason}
 use Rattle.one_jvm.specs.declared.outcome.Refusal.{Refusal}
-use Rattle.one_jvm.specs.declared.outcome.Refusal.TheVariants.{Usage, File, NoFile, ReadFault, WriteFault, TooLong, NotYet, NoMemory}
+use Rattle.one_jvm.specs.declared.outcome.Refusal.TheVariants.{Usage, File, Link, NoFile, ReadFault, WriteFault, TooLong, NotYet}
+use Rattle.one_jvm.specs.declared.outcome.Refusal.TheVariants as refusals
 
 -- the exit status of a refusal; 0 where there is none
 abbrev pub status_of : Option Refusal → ℕ
 status_of None = 0
 status_of (Some Usage) = 2
 status_of (Some (File k why)) = 3
+status_of (Some (Link e)) = 3
 status_of (Some (NoFile k)) = 4
 status_of (Some (ReadFault k)) = 5
 status_of (Some WriteFault) = 6
 status_of (Some (TooLong k)) = 11
 status_of (Some NotYet) = 14
-status_of (Some NoMemory) = 20
+status_of (Some refusals.NoMemory) = 20
 
 -- the place of the file that a refusal names
 abbrev pub place_of : Refusal → Option ℕ
@@ -24,15 +36,43 @@ place_of (ReadFault k) = Some k
 place_of (TooLong k) = Some k
 place_of _ = None
 
--- what is written to standard error; the name is that of the file at the refusal's place
+-- ---- what a refusal of linking tells
+
+-- a text behind a space; an empty one has none
+abbrev pub behind_space : List ℕ → List ℕ
+behind_space [] = []
+behind_space (u ∷ us) = codes " " ++ text_bytes (u ∷ us)
+
+-- a method's name, followed by its descriptor
+abbrev pub member_text : ClassFile → MethodItem → List ℕ
+member_text f m = text_bytes (method_name f m) ++ text_bytes (method_desc f m)
+
+-- a method of a class, by its place
+abbrev pub method_text : ℕ → ClassFile → List ℕ
+method_text method f =
+    text_bytes (this_name f) ++ codes " " ++ from [] (member_text f) (slice_get f.methods method)
+
+-- what is refused, and why; texts are written in modified UTF-8 (JVMS2 4.4.7)
+abbrev pub link_text : List ClassFile → LinkErr → List ℕ
+link_text classes (Code class method why) =
+    from [] (method_text method) (slice_get classes class) ++ codes " code " ++ code.reason why
+link_text classes (Bad why class other) =
+    text_bytes class ++ codes " link " ++ why_text why ++ behind_space other
+link_text classes NoMemory = []
+
+-- ---- the report
+
+-- what is written to standard error; the subject is the name of the file at the refusal's place, or
+-- what a refusal of linking tells
 abbrev pub report : List ℕ → Option Refusal → List ℕ
-report name None = []
-report name (Some Usage) = codes "cjvm: usage" ++ 10 ∷ []
-report name (Some (File k why)) =
-    codes "cjvm: refused " ++ name ++ codes " " ++ (reason why ++ 10 ∷ [])
-report name (Some (NoFile k)) = codes "cjvm: no file " ++ name ++ 10 ∷ []
-report name (Some (ReadFault k)) = codes "cjvm: read fault " ++ name ++ 10 ∷ []
-report name (Some WriteFault) = codes "cjvm: write fault" ++ 10 ∷ []
-report name (Some (TooLong k)) = codes "cjvm: file too long " ++ name ++ 10 ∷ []
-report name (Some NotYet) = codes "cjvm: not yet" ++ 10 ∷ []
-report name (Some NoMemory) = codes "cjvm: want of memory" ++ 10 ∷ []
+report subject None = []
+report subject (Some Usage) = codes "cjvm: usage" ++ 10 ∷ []
+report subject (Some (File k why)) =
+    codes "cjvm: refused " ++ subject ++ codes " " ++ (reason why ++ 10 ∷ [])
+report subject (Some (Link e)) = codes "cjvm: refused " ++ subject ++ 10 ∷ []
+report subject (Some (NoFile k)) = codes "cjvm: no file " ++ subject ++ 10 ∷ []
+report subject (Some (ReadFault k)) = codes "cjvm: read fault " ++ subject ++ 10 ∷ []
+report subject (Some WriteFault) = codes "cjvm: write fault" ++ 10 ∷ []
+report subject (Some (TooLong k)) = codes "cjvm: file too long " ++ subject ++ 10 ∷ []
+report subject (Some NotYet) = codes "cjvm: not yet" ++ 10 ∷ []
+report subject (Some refusals.NoMemory) = codes "cjvm: want of memory" ++ 10 ∷ []

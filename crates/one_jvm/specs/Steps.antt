@@ -2,3 +2,4 @@
 pub mod Loading
 pub mod Parts
 pub mod RunSteps
+pub mod Speaking

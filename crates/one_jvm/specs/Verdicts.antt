@@ -1,15 +1,21 @@
 -- What a call comes to, by its words and the files, where no fault strikes and memory lasts.
-use Rattle.std.specs.Prelude.{◌≡◌, ℕ, ◌<◌, ◌≤◌, List, [], ◌∷◌, length, take, map, slice_get, Option, Some, None}
-use Rattle.std.specs.List.{AllByRecursion}
+use Rattle.std.specs.Prelude.{◌≡◌, ◌⊎◌, ℕ, ◌<◌, ◌≤◌, ◌==◌, if◌then◌else◌, List, [], ◌∷◌, length, take, map, slice_get, Option, Some, None}
+use Rattle.std.specs.Char.Escape.{encode_utf16}
+use Rattle.std.specs.List.{flat_map}
+use Rattle.std.specs.Str.{chars}
+use Rattle.jvm_base.specs.Words.{from}
 use Rattle.cjvm_io.specs.Shelves.{Files, bytes_under}
 use Rattle.class_format.specs.declared.class.ClassFile.{ClassFile}
 use Rattle.class_format.specs.Meaning.{Spells}
 use Rattle.class_file.specs.declared.error.ClassErr.{ClassErr}
 use Rattle.class_file.specs.Refused.{IsRefused}
+use Rattle.class_names.specs.Classes.{this_name}
+use Rattle.link_rules.specs.declared.error.LinkErr.{LinkErr}
+use Rattle.class_link.specs.Refusals.{program_refusals}
 use Rattle.thin_file.specs.declared.thin.ThinCode.{ThinCode}
 use Rattle.thin_file.specs.Thin.{IsThin}
 use Rattle.one_jvm.specs.declared.outcome.Refusal.{Refusal}
-use Rattle.one_jvm.specs.declared.outcome.Refusal.TheVariants.{Usage, File, NoFile, ReadFault, WriteFault, TooLong, NotYet, NoMemory}
+use Rattle.one_jvm.specs.declared.outcome.Refusal.TheVariants.{Usage, File, Link, NoFile, ReadFault, WriteFault, TooLong, NotYet, NoMemory}
 use Rattle.one_jvm.specs.Words.{Asked, IsRun, IsNoRun}
 
 -- a class file has at most 1,048,576 bytes
@@ -61,21 +67,51 @@ pub record StopsAt (P : Option (List ℕ) → Type 0) (k : ℕ) (contents : List
   pub classes : List ClassFile
   pub before : AreClassFiles (take k contents) classes
 
--- one thin file with this program
-pub record IsThinProgram (code : ThinCode) (main : Option (List ℕ))
-    (contents : List (Option (List ℕ))) : Type 0 where
-  pub plain : main ≡ None
-  pub bytes : List ℕ
-  pub alone : contents ≡ Some bytes ∷ []
-  pub short : length bytes ≤ limit
-  pub thin : IsThin bytes code
+-- ---- the program of class files
 
--- class files, but not one thin file alone
-pub record IsOtherProgram (main : Option (List ℕ)) (contents : List (Option (List ℕ)))
+-- a `.` in the name of a class stands for `/`
+abbrev pub slashed : ℕ → ℕ
+slashed c = if c == 46 then 47 else c
+
+-- a word as the name of a class: each character is one or two units
+abbrev pub class_word : List ℕ → List ℕ
+class_word word = flat_map (λ c. encode_utf16 (slashed c)) (chars word)
+
+-- the name of the main class: the given one, or that of the first class
+abbrev pub main_of : Option (List ℕ) → List ClassFile → List ℕ
+main_of None classes = from [] this_name (slice_get classes 0)
+main_of (Some word) classes = class_word word
+
+-- class files that are linked
+pub record AreLinked (main : Option (List ℕ)) (contents : List (Option (List ℕ))) : Type 0 where
+  pub classes : List ClassFile
+  pub are : AreClassFiles contents classes
+  pub links : program_refusals classes (main_of main classes) ≡ []
+
+-- class files that aren't, and the first refusal that they have
+pub record AreRefused (e : LinkErr) (main : Option (List ℕ)) (contents : List (Option (List ℕ)))
     : Type 0 where
   pub classes : List ClassFile
   pub are : AreClassFiles contents classes
-  pub other : (code : ThinCode) → ¬ IsThinProgram code main contents
+  pub first : slice_get (program_refusals classes (main_of main classes)) 0 ≡ Some e
+
+-- one thin file alone, which has this program
+pub record IsThinFile (code : ThinCode) (contents : List (Option (List ℕ))) : Type 0 where
+  pub bytes : List ℕ
+  pub alone : contents ≡ Some bytes ∷ []
+  pub thin : IsThin bytes code
+
+-- it is linked
+pub record IsThinProgram (code : ThinCode) (main : Option (List ℕ))
+    (contents : List (Option (List ℕ))) : Type 0 where
+  pub linked : AreLinked main contents
+  pub file : IsThinFile code contents
+
+-- linked files, but not one thin file alone
+pub record IsOtherProgram (main : Option (List ℕ)) (contents : List (Option (List ℕ)))
+    : Type 0 where
+  pub linked : AreLinked main contents
+  pub other : (code : ThinCode) → ¬ IsThinFile code contents
 
 -- ---- what the files are to the words
 
@@ -110,11 +146,19 @@ abbrev pub HasRefusedFile : Option Files → List (List ℕ) → Type 0
 HasRefusedFile told words =
     (k : ℕ) × (why : ClassErr) × StopsFor (IsRefusedFile why) k told words
 
--- all are class files, but not one thin file alone
+-- the files aren't linked, whatever their first refusal
+abbrev pub HasUnlinkedFiles : Option Files → List (List ℕ) → Type 0
+HasUnlinkedFiles told words = (e : LinkErr) × Names told words (AreRefused e)
+
+-- a file or the linking is refused
+abbrev pub IsRefusedCall : Option Files → List (List ℕ) → Type 0
+IsRefusedCall told words = HasRefusedFile told words ⊎ HasUnlinkedFiles told words
+
+-- the files are linked, but not one thin file alone
 abbrev pub HasOtherFiles : Option Files → List (List ℕ) → Type 0
 HasOtherFiles told words = Names told words IsOtherProgram
 
--- one thin file, whatever its program
+-- one thin file, linked, whatever its program
 abbrev pub HasThinFile : Option Files → List (List ℕ) → Type 0
 HasThinFile told words = (code : ThinCode) × Names told words (IsThinProgram code)
 
@@ -128,6 +172,7 @@ IsVerdict told words (Some Usage) = IsNoRun words
 IsVerdict told words (Some (NoFile k)) = StopsFor IsMissing k told words
 IsVerdict told words (Some (TooLong k)) = StopsFor IsLong k told words
 IsVerdict told words (Some (File k why)) = StopsFor (IsRefusedFile why) k told words
+IsVerdict told words (Some (Link e)) = Names told words (AreRefused e)
 IsVerdict told words (Some NotYet) = HasOtherFiles told words
 IsVerdict told words (Some (ReadFault k)) = ⊥
 IsVerdict told words (Some WriteFault) = ⊥

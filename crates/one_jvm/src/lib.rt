@@ -2,7 +2,9 @@
 #![tactic(auto)]
 
 mod laws;
+mod link_text;
 mod loading;
+mod main_class;
 mod outcome;
 mod process;
 mod report;

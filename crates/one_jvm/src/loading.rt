@@ -1,16 +1,20 @@
 //! The files of a call, read and accepted.
 
-ghost use Rattle.std.specs.Prelude.{◌≡◌, ◌≤◌, length, MatchResult};
-ghost use Rattle.class_format.specs.Meaning.{Spells};
+ghost use Rattle.std.specs.Prelude.{◌≡◌, ◌≤◌, [], length, All, MatchResult};
+ghost use Rattle.class_format.specs.Meaning.{IsClass, Spells};
 ghost use Rattle.one_jvm.specs.Steps.Parts.{asked_by};
-ghost use Rattle.one_jvm.specs.Steps.Loading.{RefusesBytes, ReadsFile, Loads, IsAccepted, IsNotRun, Programs};
+ghost use Rattle.one_jvm.specs.Steps.Loading.{RefusesBytes, ReadsFile, Loads, refusals_of, IsUnlinked, IsOneThin, IsNotThin, IsAccepted, IsNotRun, IsTold, Programs};
 
+use crate::link_text::link_text;
+use crate::main_class::main_of;
 use crate::outcome::Refusal;
 use crate::words::Request;
 use cjvm_io::{Shelf, ShelfErr};
 use class_file::{ClassErr, read_class};
 use class_format::ClassFile;
+use class_link::check;
 use jvm_base::List;
+use link_rules::LinkErr;
 use std::alloc::Global;
 use thin_file::{ThinCode, ThinErr, read_thin};
 
@@ -22,6 +26,13 @@ const CLASS_FILE_LIMIT: u64 = 1_048_576;
 struct Loaded {
     classes: List<ClassFile>,
     bytes: Vec<u8>,
+}
+
+/// A refusal, and what it tells of linking.
+#[derive(Drop)]
+pub(crate) struct Refused {
+    pub(crate) refusal: Refusal,
+    pub(crate) text: Vec<u8>,
 }
 
 /// The class file that the bytes of the file at a place are.
@@ -88,12 +99,30 @@ fn load<S: Shelf>(alloc: Global, shelf: &mut S, request: &Request<'_>) -> Result
     })
 }
 
-/// The program of class files, of which the last has these bytes, or why they aren't run.
-fn accept(alloc: Global, request: &Request<'_>, bytes: &[u8]) -> Result<ThinCode, Refusal>
-    ensures { MatchResult result (IsAccepted (asked_by request.now) bytes.now)
-        (IsNotRun (asked_by request.now) bytes.now) }
+/// Whether class files are linked, and the first refusal that they have otherwise.
+fn link(alloc: Global, request: &Request<'_>, classes: &List<ClassFile>) -> Result<(), Refusal>
+    requires few { length classes.now ≤ 1024 }
+    requires formed { All IsClass classes.now }
+    ensures { MatchResult result (λ _. refusals_of (asked_by request.now) classes.now ≡ [])
+        (IsUnlinked (refusals_of (asked_by request.now) classes.now)) }
 {
-    if request.count() != 1 || request.main().is_some() {
+    let Ok(main) = main_of(alloc, request, classes.as_slice()) else {
+        return Err(Refusal::NoMemory);
+    };
+    match check(alloc, classes, &main) {
+        Ok(()) => Ok(()),
+        Err(LinkErr::NoMemory) => Err(Refusal::NoMemory),
+        Err(why) => Err(Refusal::Link(why)),
+    }
+}
+
+/// The program of linked files, of which the last has these bytes; none where there isn't one thin
+/// file.
+fn thin_code(alloc: Global, request: &Request<'_>, bytes: &[u8]) -> Result<ThinCode, Refusal>
+    ensures { MatchResult result (IsOneThin (asked_by request.now) bytes.now)
+        (IsNotThin (asked_by request.now) bytes.now) }
+{
+    if request.count() != 1 {
         return Err(Refusal::NotYet);
     }
     match read_thin(alloc, bytes) {
@@ -103,18 +132,58 @@ fn accept(alloc: Global, request: &Request<'_>, bytes: &[u8]) -> Result<ThinCode
     }
 }
 
+/// The program of class files, or why they aren't run.
+fn accept(alloc: Global, request: &Request<'_>, loaded: &Loaded) -> Result<ThinCode, Refusal>
+    requires few { length loaded.now.classes ≤ 1024 }
+    requires formed { All IsClass loaded.now.classes }
+    ensures { MatchResult result (IsAccepted (asked_by request.now) loaded.now)
+        (IsNotRun (asked_by request.now) loaded.now) }
+{
+    link(alloc, request, &loaded.classes)?;
+    thin_code(alloc, request, loaded.bytes.as_slice())
+}
+
+/// A refusal that tells nothing of linking.
+fn untold(alloc: Global, refusal: Refusal) -> Refused
+    ensures { result.refusal ≡ refusal }
+{
+    Refused {
+        refusal,
+        text: Vec::new(alloc),
+    }
+}
+
+/// A refusal of some classes, with what it tells of them.
+fn tell(alloc: Global, classes: &[ClassFile], refusal: Refusal) -> Refused
+    ensures { IsTold classes.now refusal result }
+{
+    let Refusal::Link(why) = &refusal else {
+        return untold(alloc, refusal);
+    };
+    match link_text(alloc, classes, why) {
+        Ok(text) => Refused { refusal, text },
+        Err(_) => untold(alloc, Refusal::NoMemory),
+    }
+}
+
 /// The program of a call's files, or why it isn't run.
 pub(crate) fn program<S: Shelf>(
     alloc: Global,
     shelf: &mut S,
     request: &Request<'_>,
-) -> Result<ThinCode, Refusal>
+) -> Result<ThinCode, Refused>
     requires few { length (asked_by request.now).files ≤ 1024 }
     ensures files { S.files shelf.new ≡ S.files shelf.old }
     ensures later { S.faults shelf.old ≤ S.faults shelf.new }
     ensures answer { Programs (S.files shelf.old) (asked_by request.now) (S.faults shelf.old)
         (S.faults shelf.new) result }
 {
-    let loaded = load(alloc, shelf, request)?;
-    accept(alloc, request, loaded.bytes.as_slice())
+    let loaded = match load(alloc, shelf, request) {
+        Ok(loaded) => loaded,
+        Err(refusal) => return Err(untold(alloc, refusal)),
+    };
+    match accept(alloc, request, &loaded) {
+        Ok(code) => Ok(code),
+        Err(refusal) => Err(tell(alloc, loaded.classes.as_slice(), refusal)),
+    }
 }

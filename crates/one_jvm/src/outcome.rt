@@ -4,6 +4,7 @@ ghost use Rattle.std.specs.Prelude.{◌≡◌};
 ghost use Rattle.one_jvm.specs.Outcomes.{place_of, status_of};
 
 use class_file::ClassErr;
+use link_rules::LinkErr;
 use one_machine::Order;
 use thiserror::Error;
 
@@ -18,7 +19,7 @@ pub enum Stop {
 
 /// Why a call didn't end with status 0. A file is named by its place, from 0, among the words that
 /// name files.
-#[derive(Clone, Copy, Debug, PartialEq, Eq, Error)]
+#[derive(Debug, Drop, Error)]
 pub enum Refusal {
     /// The words are not those of a command. Status 2.
     #[error("usage")]
@@ -26,6 +27,9 @@ pub enum Refusal {
     /// A file is no class file, and why. Status 3.
     #[error("refused {why}")]
     File { file: u32, why: ClassErr },
+    /// The files aren't linked, and why. Status 3.
+    #[error("refused {0}")]
+    Link(LinkErr),
     /// There is no such file. Status 4.
     #[error("no file")]
     NoFile(u32),
@@ -38,7 +42,7 @@ pub enum Refusal {
     /// A file is longer than a class file may be. Status 11.
     #[error("file too long")]
     TooLong(u32),
-    /// All files are class files, but they aren't run yet. Status 14.
+    /// The files are linked, but they aren't run yet. Status 14.
     #[error("not yet")]
     NotYet,
     /// No memory was left. Status 20.
@@ -76,7 +80,7 @@ pub(crate) fn status_of(refusal: &Option<Refusal>) -> u8
     match refusal {
         None => 0,
         Some(Refusal::Usage) => 2,
-        Some(Refusal::File { .. }) => 3,
+        Some(Refusal::File { .. } | Refusal::Link(_)) => 3,
         Some(Refusal::NoFile(_)) => 4,
         Some(Refusal::ReadFault(_)) => 5,
         Some(Refusal::WriteFault) => 6,

@@ -103,24 +103,24 @@ fn write_refused<E: Sink>(err: &mut E, name: &[u8], why: ClassErr) -> Result<(),
     write_why(err, why)
 }
 
-/// Writes the report of a refusal, by the name of its file.
+/// Writes the report of a refusal, by the name of its file or by what it tells of linking.
 pub(crate) fn write_refusal<E: Sink>(
     err: &mut E,
-    name: &str,
+    subject: &[u8],
     refusal: &Refusal,
 ) -> Result<(), Failed>
     ensures bytes { GainsAll (E.held err.old) (E.held err.new)
-        (report name.now (Some refusal.now)) result }
+        (report subject.now (Some refusal.now)) result }
     ensures cause { HasCause (E.faults err.old) (E.faults err.new) result }
 {
-    let name = name.as_bytes();
     match refusal {
         Refusal::Usage => write_all(err, b"cjvm: usage\n"),
-        Refusal::File { why, .. } => write_refused(err, name, *why),
-        Refusal::NoFile(_) => write_line(err, b"cjvm: no file ", name),
-        Refusal::ReadFault(_) => write_line(err, b"cjvm: read fault ", name),
+        Refusal::File { why, .. } => write_refused(err, subject, *why),
+        Refusal::Link(_) => write_line(err, b"cjvm: refused ", subject),
+        Refusal::NoFile(_) => write_line(err, b"cjvm: no file ", subject),
+        Refusal::ReadFault(_) => write_line(err, b"cjvm: read fault ", subject),
         Refusal::WriteFault => write_all(err, b"cjvm: write fault\n"),
-        Refusal::TooLong(_) => write_line(err, b"cjvm: file too long ", name),
+        Refusal::TooLong(_) => write_line(err, b"cjvm: file too long ", subject),
         Refusal::NotYet => write_all(err, b"cjvm: not yet\n"),
         Refusal::NoMemory => write_all(err, b"cjvm: want of memory\n"),
     }

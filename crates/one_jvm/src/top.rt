@@ -4,9 +4,10 @@ ghost use Rattle.std.specs.Prelude.{◌≡◌, ◌≤◌, ◌↔◌, ◌⊎◌, 
 ghost use Rattle.cjvm_io.specs.Faults.{Rose};
 ghost use Rattle.cjvm_io.specs.Sinks.{shown};
 ghost use Rattle.one_jvm.specs.Words.{IsNoRun, texts};
-ghost use Rattle.one_jvm.specs.Verdicts.{LacksFile, HasLongFile, HasOtherFiles, HasRefusedFile, HasThinFile};
+ghost use Rattle.one_jvm.specs.Verdicts.{LacksFile, HasLongFile, HasOtherFiles, IsRefusedCall, HasThinFile};
 ghost use Rattle.one_jvm.specs.Outcomes.{status_of};
 ghost use Rattle.one_jvm.specs.Answers.{Because, Ran, Agrees, the_faults, refusal_of, Exactly, Answers, IsClosed, Reports};
+ghost use Rattle.one_jvm.specs.Steps.Speaking.{IsToldOf, Speaks};
 
 use crate::loading::program;
 use crate::outcome::{Outcome, Refusal, Stop, status_of};
@@ -17,12 +18,13 @@ use cjvm_io::{Failed, Shelf, Sink};
 use one_machine::Order;
 use std::alloc::Global;
 
-/// What a call answers, faults of standard error aside.
+/// What a call answers, faults of standard error aside, and what its refusal tells of linking.
 #[derive(Drop)]
 struct Verdict {
     order: Order,
     stop: Option<Stop>,
     refusal: Option<Refusal>,
+    text: Vec<u8>,
 }
 
 /// The refusal of a call whose run ended so.
@@ -37,13 +39,14 @@ fn refusal_of(stop: Stop) -> Option<Refusal>
 }
 
 /// The verdict of a call that begins no run.
-fn refused(alloc: Global, refusal: Refusal) -> Verdict
-    ensures { result ≡ record { order = []; stop = None; refusal = Some refusal } }
+fn refused(alloc: Global, refusal: Refusal, text: Vec<u8>) -> Verdict
+    ensures { result ≡ record { order = []; stop = None; refusal = Some refusal; text = text } }
 {
     Verdict {
         order: Order::new(alloc),
         stop: None,
         refusal: Some(refusal),
+        text,
     }
 }
 
@@ -55,6 +58,7 @@ fn judge<S: Shelf, O: Sink>(alloc: Global, words: &[String], shelf: &mut S, out:
     ensures run { Ran (texts words.now) (S.files shelf.old) (shown O.held O.faults out.old)
         (shown O.held O.faults out.new) result.order result.stop }
     ensures agrees { Agrees result.stop result.refusal }
+    ensures tells { IsToldOf (S.files shelf.old) (texts words.now) result.refusal result.text.items }
     ensures files { S.files shelf.new ≡ S.files shelf.old }
     ensures read_faults { S.faults shelf.old ≤ S.faults shelf.new }
     ensures out_faults { O.faults out.old ≤ O.faults out.new }
@@ -62,7 +66,7 @@ fn judge<S: Shelf, O: Sink>(alloc: Global, words: &[String], shelf: &mut S, out:
     ensures no_run { result.stop ≡ None → out.new ≡ out.old }
 {
     let Some(request) = read_words(words) else {
-        return refused(alloc, Refusal::Usage);
+        return refused(alloc, Refusal::Usage, Vec::new(alloc));
     };
     match program(alloc, shelf, &request) {
         Ok(code) => {
@@ -71,22 +75,34 @@ fn judge<S: Shelf, O: Sink>(alloc: Global, words: &[String], shelf: &mut S, out:
                 order,
                 stop: Some(stop),
                 refusal: refusal_of(stop),
+                text: Vec::new(alloc),
             }
         }
-        Err(refusal) => refused(alloc, refusal),
+        Err(why) => refused(alloc, why.refusal, why.text),
+    }
+}
+
+/// What the report of a refusal speaks of: the name of its file, or what it tells of linking.
+fn subject_of<'a>(words: &'a [String], refusal: &Option<Refusal>, text: &'a [u8]) -> &'a [u8]
+    ensures { Speaks (texts words.now) refusal.now text.now result.now }
+{
+    match refusal {
+        None => b"",
+        Some(Refusal::Link(_)) => text,
+        Some(refusal) => name_of(words, refusal).as_bytes(),
     }
 }
 
 /// Reports a refusal. A fault of standard error hides it.
-fn close<E: Sink>(err: &mut E, name: &str, refusal: Option<Refusal>) -> Option<Refusal>
-    ensures closed { IsClosed name.now refusal (shown E.held E.faults err.old)
+fn close<E: Sink>(err: &mut E, subject: &[u8], refusal: Option<Refusal>) -> Option<Refusal>
+    ensures closed { IsClosed subject.now refusal (shown E.held E.faults err.old)
         (shown E.held E.faults err.new) result }
     ensures silent { refusal ≡ None → result ≡ None }
     ensures err_faults { E.faults err.old ≤ E.faults err.new }
     ensures no_report { refusal ≡ None → err.new ≡ err.old }
 {
     let refusal = refusal?;
-    match write_refusal(err, name, &refusal) {
+    match write_refusal(err, subject, &refusal) {
         Ok(()) => Some(refusal),
         Err(Failed) => Some(Refusal::WriteFault),
     }
@@ -107,7 +123,7 @@ pub fn cjvm<S: Shelf, O: Sink, E: Sink>(
 
     // Each status comes exactly with its cause, faults and want of memory aside.
     ensures usage { Exactly result.status 2 (6 ∷ []) (IsNoRun (texts words.now)) }
-    ensures refused { Answers (S.files shelf.old) (texts words.now) result.status 3 HasRefusedFile }
+    ensures refused { Answers (S.files shelf.old) (texts words.now) result.status 3 IsRefusedCall }
     ensures no_file { Answers (S.files shelf.old) (texts words.now) result.status 4 LacksFile }
     ensures too_long { Answers (S.files shelf.old) (texts words.now) result.status 11 HasLongFile }
     ensures not_yet { Answers (S.files shelf.old) (texts words.now) result.status 14 HasOtherFiles }
@@ -136,12 +152,18 @@ pub fn cjvm<S: Shelf, O: Sink, E: Sink>(
     ensures no_report { result.status ≡ 0 → err.new ≡ err.old }
 {
     let verdict = judge(alloc, words, shelf, out);
-    let name = name_of(words, &verdict.refusal);
-    let refusal = close(err, name, verdict.refusal);
+    let Verdict {
+        order,
+        stop,
+        refusal,
+        text,
+    } = verdict;
+    let subject = subject_of(words, &refusal, text.as_slice());
+    let refusal = close(err, subject, refusal);
     Outcome {
         status: status_of(&refusal),
-        order: verdict.order,
-        stop: verdict.stop,
+        order,
+        stop,
         refusal,
     }
 }
@@ -154,7 +176,7 @@ pub fn without_words<E: Sink>(alloc: Global, err: &mut E) -> Outcome
     ensures no_run { (result.stop ≡ None) × (result.order ≡ []) }
     ensures err_faults { E.faults err.old ≤ E.faults err.new }
 {
-    let refusal = close(err, "", Some(Refusal::NoMemory));
+    let refusal = close(err, b"", Some(Refusal::NoMemory));
     Outcome {
         status: status_of(&refusal),
         order: Order::new(alloc),

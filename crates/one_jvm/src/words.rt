@@ -132,12 +132,11 @@ pub(crate) fn read_words(words: &[String]) -> Option<Request<'_>>
 }
 
 /// The name of the file that a refusal names by its place; empty where it names none.
-pub(crate) fn name_of<'a>(words: &'a [String], refusal: &Option<Refusal>) -> &'a str
+pub(crate) fn name_of<'a>(words: &'a [String], refusal: &Refusal) -> &'a str
     ensures { IsNamed (texts words.now) refusal.now result.now }
 {
-    let Some(refusal) = refusal else { return "" };
     let Some(place) = place_of(refusal) else {
-        return ""
+        return "";
     };
     match read_words(words) {
         Some(request) => request.file(place as usize),

@@ -1,8 +1,7 @@
 //! Calls over memory: what they answer, and what the streams hold.
 
 use cjvm_io::{MemShelf, VecSink};
-use class_file::ClassErr;
-use one_jvm::{Outcome, Refusal, Stop, cjvm, without_words};
+use one_jvm::{Outcome, Stop, cjvm, without_words};
 use std::alloc::{AllocError, Global};
 use std::test::Fail;
 
@@ -48,7 +47,16 @@ fn file_of(alloc: Global, tail: &[u8]) -> Result<Vec<u8>, AllocError> {
     Ok(file)
 }
 
-/// Calls with these words, where the shelf has one file A.class.
+/// A.class with another byte at a place.
+fn changed_file(alloc: Global, at: usize, byte: u8) -> Result<Vec<u8>, AllocError> {
+    let mut file = file_of(alloc, TAIL.as_slice())?;
+    if let Some(place) = file.get_mut(at) {
+        *place = byte;
+    }
+    Ok(file)
+}
+
+/// Calls with these words, where the shelf has a file A.class, and the class B in B.class.
 fn call(alloc: Global, words: &[&str], file: Vec<u8>, fails: Fails) -> Result<Left, Fail> {
     let mut texts = Vec::new(alloc);
     for word in words {
@@ -56,6 +64,10 @@ fn call(alloc: Global, words: &[&str], file: Vec<u8>, fails: Fails) -> Result<Le
     }
     let mut files = Vec::new(alloc);
     files.push((String::from_str(alloc, "A.class")?, file))?;
+    files.push((
+        String::from_str(alloc, "B.class")?,
+        changed_file(alloc, 13, b'B')?,
+    ))?;
     let mut shelf = MemShelf::new(files, Vec::from_slice(alloc, &[fails.shelf])?);
     let mut out = VecSink::new(alloc, 1000, 3, Vec::from_slice(alloc, &[fails.out])?)?;
     let mut err = VecSink::new(alloc, 1000, 5, Vec::from_slice(alloc, &[fails.err])?)?;
@@ -67,82 +79,190 @@ fn call(alloc: Global, words: &[&str], file: Vec<u8>, fails: Fails) -> Result<Le
     })
 }
 
-#[test]
-fn runs_the_first_file(rt: HostRuntime) -> Result<(), Fail> {
-    let alloc = rt.alloc();
-    let file = file_of(alloc, TAIL.as_slice())?;
-    let left = call(alloc, &["run", "A.class"], file, NO_FAILS)?;
-    assert_eq!(rt; left.outcome.status, 0);
-    assert_eq!(rt; left.outcome.stop, Some(Stop::Done));
-    assert_eq!(rt; left.outcome.refusal, None);
-    assert_eq!(rt; left.outcome.order.len(), 10);
-    assert_eq!(rt; left.out.as_slice(), b"5\n".as_slice());
-    assert_eq!(rt; left.err.as_slice(), b"".as_slice());
+/// Words, another byte at a place of A.class, and the status and the report.
+type Row<'a> = (&'a [&'a str], usize, u8, u8, &'a [u8]);
 
-    // The byte at 231 is the arithmetic: isub in place of iadd.
-    let mut tail = *TAIL;
-    tail[17] = 0x64;
-    let left = call(
-        alloc,
-        &["run", "A.class"],
-        file_of(alloc, tail.as_slice())?,
-        NO_FAILS,
-    )?;
-    assert_eq!(rt; left.outcome.status, 0);
-    assert_eq!(rt; left.out.as_slice(), b"-1\n".as_slice());
-    Ok(())
-}
+/// The place and the byte that leave A.class as it is.
+const AS_IT_IS: (usize, u8) = (0, 0xca);
 
 #[test]
-fn refuses_by_name(rt: HostRuntime) -> Result<(), Fail> {
+fn refuses_words_and_files(rt: HostRuntime) -> Result<(), Fail> {
     let alloc = rt.alloc();
-    let words: [(&[&str], u8, &[u8]); 13] = [
-        (&[], 2, b"cjvm: usage\n"),
-        (&["run"], 2, b"cjvm: usage\n"),
-        (&["check", "A.class"], 2, b"cjvm: usage\n"),
-        (&["run", "A.class", "A.class"], 14, b"cjvm: not yet\n"),
+    let (at, byte) = AS_IT_IS;
+    let rows: [Row<'_>; 17] = [
+        (&[], at, byte, 2, b"cjvm: usage\n"),
+        (&["run"], at, byte, 2, b"cjvm: usage\n"),
+        (&["check", "A.class"], at, byte, 2, b"cjvm: usage\n"),
+        (&["run", "-x", "A.class"], at, byte, 2, b"cjvm: usage\n"),
+        (&["run", "--main"], at, byte, 2, b"cjvm: usage\n"),
+        (&["run", "--main", "A"], at, byte, 2, b"cjvm: usage\n"),
         (
-            &["run", "A.class", "X.class"],
-            4,
-            b"cjvm: no file X.class\n",
-        ),
-        (&["run", "--main"], 2, b"cjvm: usage\n"),
-        (&["run", "A.class", "--main", "-A"], 2, b"cjvm: usage\n"),
-        (
-            &["run", "--main", "A", "--main", "A", "A.class"],
+            &["run", "A.class", "--main", "-A"],
+            at,
+            byte,
             2,
             b"cjvm: usage\n",
         ),
-        (&["run", "--main", "A", "A.class"], 14, b"cjvm: not yet\n"),
-        (&["run", "-A"], 2, b"cjvm: usage\n"),
-        (&["run", "-"], 4, b"cjvm: no file -\n"),
-        (&["run", ""], 4, b"cjvm: no file \n"),
-        (&["run", "X.class"], 4, b"cjvm: no file X.class\n"),
+        (
+            &["run", "--main", "A", "--main", "A", "A.class"],
+            at,
+            byte,
+            2,
+            b"cjvm: usage\n",
+        ),
+        (&["run", "-"], at, byte, 4, b"cjvm: no file -\n"),
+        (&["run", ""], at, byte, 4, b"cjvm: no file \n"),
+        (
+            &["run", "A.class", "X.class"],
+            at,
+            byte,
+            4,
+            b"cjvm: no file X.class\n",
+        ),
+        (
+            &["run", "A.class", "A.class"],
+            at,
+            byte,
+            3,
+            b"cjvm: refused A link same-class A\n",
+        ),
+        (
+            &["run", "--main", "Q", "A.class"],
+            at,
+            byte,
+            3,
+            b"cjvm: refused Q link no-main main\n",
+        ),
+        (
+            &["run", "B.class", "--main", "q.Q"],
+            at,
+            byte,
+            3,
+            b"cjvm: refused q/Q link no-main main\n",
+        ),
+        (
+            &["run", "A.class", "B.class"],
+            at,
+            byte,
+            14,
+            b"cjvm: not yet\n",
+        ),
+        (
+            &["run", "B.class", "A.class"],
+            7,
+            0x31,
+            3,
+            b"cjvm: refused A.class version 49.0\n",
+        ),
+        (&["run", "B.class"], at, byte, 14, b"cjvm: not yet\n"),
     ];
-    for (words, status, report) in words {
-        let file = file_of(alloc, TAIL.as_slice())?;
+    for (words, at, byte, status, report) in rows {
+        let file = changed_file(alloc, at, byte)?;
         let left = call(alloc, words, file, NO_FAILS)?;
         assert_eq!(rt; left.outcome.status, status, "words {words:?}");
         assert_eq!(rt; left.err.as_slice(), report);
         assert_eq!(rt; left.out.len(), 0);
-        assert_eq!(rt; left.outcome.stop, None);
-        assert_eq!(rt; left.outcome.order.len(), 0);
     }
-    let long = vec![in alloc; 0u8; 1_048_577]?;
-    let left = call(alloc, &["run", "A.class"], long, NO_FAILS)?;
-    assert_eq!(rt; left.outcome.refusal, Some(Refusal::TooLong(0)));
-    assert_eq!(rt;
-        left.err.as_slice(),
-        b"cjvm: file too long A.class\n".as_slice()
-    );
+    Ok(())
+}
 
-    let zeros = vec![in alloc; 0u8; 1_048_576]?;
-    let left = call(alloc, &["run", "A.class"], zeros, NO_FAILS)?;
-    assert_eq!(rt; left.outcome.status, 3);
-    assert_eq!(rt;
-        left.err.as_slice(),
-        b"cjvm: refused A.class magic\n".as_slice()
-    );
+#[test]
+fn refuses_changed_bytes(rt: HostRuntime) -> Result<(), Fail> {
+    let alloc = rt.alloc();
+    let rows: [(usize, u8, &[u8]); 15] = [
+        (0, 0, b"cjvm: refused A.class magic\n"),
+        (10, 2, b"cjvm: refused A.class pool tag 1\n"),
+        (13, 0, b"cjvm: refused A.class pool text 1\n"),
+        (16, 2, b"cjvm: refused A.class pool link 2\n"),
+        (193, 0x23, b"cjvm: refused A.class flags 192\n"),
+        (195, 1, b"cjvm: refused A.class item link 194\n"),
+        (197, 2, b"cjvm: refused A link super-loop A\n"),
+        (197, 0, b"cjvm: refused A link wrong-kind\n"),
+        (213, 5, b"cjvm: refused A.class code count 0\n"),
+        (217, 0x15, b"cjvm: refused A.class attribute length 214\n"),
+        (225, 0, b"cjvm: refused A.class code length 0\n"),
+        (
+            231,
+            0xca,
+            b"cjvm: refused A main([Ljava/lang/String;)V code unknown-op 5\n",
+        ),
+        (
+            231,
+            0x62,
+            b"cjvm: refused A main([Ljava/lang/String;)V code left-out-op 5\n",
+        ),
+        (
+            228,
+            19,
+            b"cjvm: refused A main([Ljava/lang/String;)V code bad-index 0\n",
+        ),
+        (241, 1, b"cjvm: refused A.class cut 242\n"),
+    ];
+    for (at, byte, report) in rows {
+        let file = changed_file(alloc, at, byte)?;
+        let left = call(alloc, &["run", "A.class"], file, NO_FAILS)?;
+        assert_eq!(rt; left.outcome.status, 3);
+        assert_eq!(rt; left.err.as_slice(), report);
+        assert_eq!(rt; left.out.len(), 0);
+    }
+    Ok(())
+}
+
+#[test]
+fn runs_the_first_file(rt: HostRuntime) -> Result<(), Fail> {
+    let alloc = rt.alloc();
+    // The byte at 231 is the arithmetic: isub in place of iadd.
+    let rows: [(&[&str], u8, &[u8]); 4] = [
+        (&["run", "A.class"], 0x60, b"5\n"),
+        (&["run", "A.class"], 0x64, b"-1\n"),
+        (&["run", "--main", "A", "A.class"], 0x60, b"5\n"),
+        (&["run", "A.class", "--main", "A"], 0x60, b"5\n"),
+    ];
+    for (words, byte, out) in rows {
+        let file = changed_file(alloc, 231, byte)?;
+        let left = call(alloc, words, file, NO_FAILS)?;
+        assert_eq!(rt; left.outcome.status, 0);
+        assert_eq!(rt; left.outcome.order.len(), 10);
+        assert_eq!(rt; left.out.as_slice(), out);
+        assert_eq!(rt; left.err.len(), 0);
+    }
+    Ok(())
+}
+
+#[test]
+fn refuses_long_files(rt: HostRuntime) -> Result<(), Fail> {
+    let alloc = rt.alloc();
+    let rows: [(usize, u8, &[u8]); 2] = [
+        (1_048_577, 11, b"cjvm: file too long A.class\n"),
+        (1_048_576, 3, b"cjvm: refused A.class magic\n"),
+    ];
+    for (len, status, report) in rows {
+        let zeros = vec![in alloc; 0u8; len]?;
+        let left = call(alloc, &["run", "A.class"], zeros, NO_FAILS)?;
+        assert_eq!(rt; left.outcome.status, status);
+        assert_eq!(rt; left.err.as_slice(), report);
+    }
+    Ok(())
+}
+
+#[test]
+fn takes_1024_files(rt: HostRuntime) -> Result<(), Fail> {
+    let alloc = rt.alloc();
+    let rows: [(usize, u8, &[u8]); 2] = [
+        (1024, 3, b"cjvm: refused A link same-class A\n"),
+        (1025, 2, b"cjvm: usage\n"),
+    ];
+    for (count, status, report) in rows {
+        let mut words = Vec::new(alloc);
+        words.push("run")?;
+        for _ in 0..count {
+            words.push("A.class")?;
+        }
+        let file = file_of(alloc, TAIL.as_slice())?;
+        let left = call(alloc, words.as_slice(), file, NO_FAILS)?;
+        assert_eq!(rt; left.outcome.status, status);
+        assert_eq!(rt; left.err.as_slice(), report);
+    }
     Ok(())
 }
 
@@ -161,13 +281,6 @@ fn refuses_cuts(rt: HostRuntime) -> Result<(), Fail> {
         let left = call(alloc, &["run", "A.class"], file, NO_FAILS)?;
         let report = format!(in alloc; "cjvm: refused A.class cut {len}\n")?;
         assert_eq!(rt; left.outcome.status, 3);
-        assert_eq!(rt;
-            left.outcome.refusal,
-            Some(Refusal::File {
-                file: 0,
-                why: ClassErr::Cut(u64::from(len))
-            })
-        );
         assert_eq!(rt; left.err.as_slice(), report.as_bytes());
     }
     let mut longer = file_of(alloc, TAIL.as_slice())?;
@@ -177,47 +290,6 @@ fn refuses_cuts(rt: HostRuntime) -> Result<(), Fail> {
         left.err.as_slice(),
         b"cjvm: refused A.class extra 242\n".as_slice()
     );
-    Ok(())
-}
-
-/// A.class with another byte at a place.
-fn changed_file(alloc: Global, at: usize, byte: u8) -> Result<Vec<u8>, Fail> {
-    let mut file = file_of(alloc, TAIL.as_slice())?;
-    if let Some(place) = file.get_mut(at) {
-        *place = byte;
-    }
-    Ok(file)
-}
-
-#[test]
-fn refuses_changed_bytes(rt: HostRuntime) -> Result<(), Fail> {
-    let alloc = rt.alloc();
-    let rows: [(usize, u8, u8, &[u8]); 12] = [
-        (0, 0, 3, b"cjvm: refused A.class magic\n"),
-        (7, 0x31, 3, b"cjvm: refused A.class version 49.0\n"),
-        (10, 2, 3, b"cjvm: refused A.class pool tag 1\n"),
-        (13, 0, 3, b"cjvm: refused A.class pool text 1\n"),
-        (16, 2, 3, b"cjvm: refused A.class pool link 2\n"),
-        (193, 0x23, 3, b"cjvm: refused A.class flags 192\n"),
-        (195, 1, 3, b"cjvm: refused A.class item link 194\n"),
-        (197, 0, 14, b"cjvm: not yet\n"),
-        (213, 5, 3, b"cjvm: refused A.class code count 0\n"),
-        (
-            217,
-            0x15,
-            3,
-            b"cjvm: refused A.class attribute length 214\n",
-        ),
-        (225, 0, 3, b"cjvm: refused A.class code length 0\n"),
-        (241, 1, 3, b"cjvm: refused A.class cut 242\n"),
-    ];
-    for (at, byte, status, report) in rows {
-        let file = changed_file(alloc, at, byte)?;
-        let left = call(alloc, &["run", "A.class"], file, NO_FAILS)?;
-        assert_eq!(rt; left.outcome.status, status);
-        assert_eq!(rt; left.err.as_slice(), report);
-        assert_eq!(rt; left.out.len(), 0);
-    }
     Ok(())
 }
 

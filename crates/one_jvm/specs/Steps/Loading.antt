@@ -1,18 +1,22 @@
 -- What reading files and accepting them answers.
-use Rattle.std.specs.Prelude.{◌≡◌, ◌⊎◌, ℕ, ◌≤◌, List, [], ◌∷◌, length, Option, Some, None, Result, Ok, Err}
+use Rattle.std.specs.Prelude.{◌≡◌, ◌⊎◌, ℕ, ◌≤◌, List, [], ◌∷◌, length, slice_get, Option, Some, None, Result, Ok, Err}
 use Rattle.cjvm_io.specs.Faults.{Rose}
 use Rattle.cjvm_io.specs.Shelves.{Files, bytes_under}
 use Rattle.class_format.specs.declared.class.ClassFile.{ClassFile}
 use Rattle.class_format.specs.Meaning.{Spells}
 use Rattle.class_file.specs.Refused.{IsRefused}
+use Rattle.link_rules.specs.declared.error.LinkErr.{LinkErr}
+use Rattle.class_link.specs.Refusals.{program_refusals}
 use Rattle.thin_file.specs.declared.thin.ThinCode.{ThinCode}
 use Rattle.thin_file.specs.Thin.{IsThin}
 use Rattle.one_jvm.specs.declared.loading.Loaded.{Loaded}
+use Rattle.one_jvm.specs.declared.loading.Refused.{Refused}
 use Rattle.one_jvm.specs.declared.outcome.Refusal.{Refusal}
-use Rattle.one_jvm.specs.declared.outcome.Refusal.TheVariants.{Usage, File, NoFile, ReadFault, WriteFault, TooLong, NotYet, NoMemory}
+use Rattle.one_jvm.specs.declared.outcome.Refusal.TheVariants.{Usage, File, Link, NoFile, ReadFault, WriteFault, TooLong, NotYet, NoMemory}
 use Rattle.one_jvm.specs.Words.{Asked}
-use Rattle.one_jvm.specs.Verdicts.{limit, IsMissing, IsLong, IsRefusedFile, IsClassFile, AreClassFiles, StopsAt, IsThinProgram, IsOtherProgram, AreUnder}
-use Rattle.one_jvm.specs.Answers.{IsAny}
+use Rattle.one_jvm.specs.Verdicts.{limit, IsMissing, IsLong, IsRefusedFile, IsClassFile, AreClassFiles, StopsAt, main_of, AreRefused, IsThinProgram, IsOtherProgram, AreUnder}
+use Rattle.one_jvm.specs.Answers.{IsAny, IsLinkText}
+use Rattle.one_jvm.specs.Outcomes.{link_text}
 
 -- ---- one file
 
@@ -103,31 +107,73 @@ Loads told names before now (Err e) =
 
 -- ---- the program
 
--- one file, and no main class is named
-pub record IsAlone (asked : Asked) : Type 0 where
-  pub plain : asked.main ≡ None
-  pub one : length asked.files ≡ 1
+-- what linking refuses of some classes
+abbrev pub refusals_of : Asked → List ClassFile → List LinkErr
+refusals_of asked classes = program_refusals classes (main_of asked.main classes)
 
--- the one file is thin, and this is its program
-pub record IsAccepted (asked : Asked) (bytes : List ℕ) (code : ThinCode) : Type 0 where
-  pub alone : IsAlone asked
+-- the classes aren't linked, or memory ran out
+abbrev pub IsUnlinked : List LinkErr → Refusal → Type 0
+IsUnlinked refused (Link e) = slice_get refused 0 ≡ Some e
+IsUnlinked refused NoMemory = Unit {0}
+IsUnlinked refused _ = ⊥
+
+-- there is one file, and it is thin
+pub record IsOneThin (asked : Asked) (bytes : List ℕ) (code : ThinCode) : Type 0 where
+  pub one : length asked.files ≡ 1
   pub thin : IsThin bytes code
 
--- it isn't run, or memory ran out
-abbrev pub IsNotRun : Asked → List ℕ → Refusal → Type 0
-IsNotRun asked bytes NotYet = (code : ThinCode) → ¬ IsAccepted asked bytes code
-IsNotRun asked bytes NoMemory = Unit {0}
-IsNotRun asked bytes _ = ⊥
+-- there isn't, or memory ran out
+abbrev pub IsNotThin : Asked → List ℕ → Refusal → Type 0
+IsNotThin asked bytes NotYet = (code : ThinCode) → ¬ IsOneThin asked bytes code
+IsNotThin asked bytes NoMemory = Unit {0}
+IsNotThin asked bytes _ = ⊥
+
+-- the classes are linked, and the one file is thin
+pub record IsAccepted (asked : Asked) (l : Loaded) (code : ThinCode) : Type 0 where
+  pub links : refusals_of asked l.classes ≡ []
+  pub thin : IsOneThin asked l.bytes.items code
+
+-- the classes are linked, but there isn't one thin file
+pub record IsOther (asked : Asked) (l : Loaded) : Type 0 where
+  pub links : refusals_of asked l.classes ≡ []
+  pub other : (code : ThinCode) → ¬ IsOneThin asked l.bytes.items code
+
+-- they aren't run, or memory ran out
+abbrev pub IsNotRun : Asked → Loaded → Refusal → Type 0
+IsNotRun asked l NotYet = IsOther asked l
+IsNotRun asked l e = IsUnlinked (refusals_of asked l.classes) e
 
 -- the files' program is refused
 abbrev pub RefusesProgram : Option (List ℕ) → Refusal → List (Option (List ℕ)) → Type 0
 RefusesProgram main NotYet contents = IsOtherProgram main contents
+RefusesProgram main (Link e) contents = AreRefused e main contents
 RefusesProgram main e contents = RefusesFiles e contents
 
+-- what a refusal of some classes tells
+abbrev pub IsTextOf : List ClassFile → Refusal → List ℕ → Type 0
+IsTextOf classes (Link e) text = text ≡ link_text classes e
+IsTextOf classes _ text = Unit {0}
+
+-- a refusal of some classes with what it tells, or want of memory
+abbrev pub IsTold : List ClassFile → Refusal → Refused → Type 0
+IsTold classes e r =
+    ((r.refusal ≡ e) × IsTextOf classes e r.text.items) ⊎ (r.refusal ≡ NoMemory)
+
+-- what a refusal of the files tells
+abbrev pub HasText : Option Files → List (List ℕ) → Refusal → List ℕ → Type 0
+HasText told names (Link e) text = AreFound told names (IsLinkText e text)
+HasText told names _ text = Unit {0}
+
+-- the files have no program that is run, and why
+pub record HasNoProgram (told : Option Files) (asked : Asked) (before now : ℕ) (e : Refusal)
+    (text : List ℕ) : Type 0 where
+  pub cause : AreFound told asked.files (RefusesProgram asked.main e)
+      ⊎ LoadFails told asked.files before now e
+  pub tells : HasText told asked.files e text
+
 -- what holds of the shelf's files where forming their program answers so
-abbrev pub Programs : Option Files → Asked → ℕ → ℕ → Result ThinCode Refusal → Type 0
+abbrev pub Programs : Option Files → Asked → ℕ → ℕ → Result ThinCode Refused → Type 0
 Programs told asked before now (Ok code) =
     AreFound told asked.files (IsThinProgram code asked.main)
-Programs told asked before now (Err e) =
-    AreFound told asked.files (RefusesProgram asked.main e)
-    ⊎ LoadFails told asked.files before now e
+Programs told asked before now (Err r) =
+    HasNoProgram told asked before now r.refusal r.text.items

@@ -1,5 +1,6 @@
-use Rattle.one_jvm.proofs.LoadLemmas.{not_both}
+use Rattle.one_jvm.specs.Steps.Parts.{asked_by}
+use Rattle.one_jvm.proofs.LoadLemmas.{accepted}
 use Rattle.one_jvm.proofs.loading.accept.Goals as goal
 
-pub returns-in-Err-NotThin : goal.returns-in-Err-NotThin
-returns-in-Err-NotThin c code a = not_both c.in-Err-NotThin.field-0 c.in-Err-NotThin.field-0-is (c.in-Err-NotThin.ensures.only code a.thin)
+pub returns : goal.returns
+returns c = accepted (asked_by c.args.request.now) c.args.loaded.now c.thin_code.result c.in_ok-link.ensures (rw c.as_slice.ensures.value at c.thin_code.ensures)

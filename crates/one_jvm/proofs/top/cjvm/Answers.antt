@@ -1,6 +1,7 @@
 use Rattle.one_jvm.specs.Words.{texts}
 use Rattle.one_jvm.specs.Answers.{the_faults}
 use Rattle.one_jvm.proofs.Statuses.{usage, refused, no_file, too_long, not_yet, ended, read_fault, any_write_fault, hides, silent_at_zero, done}
+use Rattle.one_jvm.proofs.Judged.{subject}
 use Rattle.one_jvm.proofs.top.cjvm.Goals as goal
 
 pub returns-clause-usage : goal.returns-clause-usage
@@ -32,3 +33,13 @@ returns-clause-done g c = done c.judge-verdict.result.stop c.judge-verdict.resul
 
 pub returns-clause-no_report : goal.returns-clause-no_report
 returns-clause-no_report g c e = c.close-refusal.ensures.no_report (silent_at_zero c.judge-verdict.result.refusal c.close-refusal.result c.status_of.result c.status_of.ensures (hides _ c.judge-verdict.result.refusal _ _ c.close-refusal.result c.close-refusal.ensures.closed) e)
+
+pub returns-clause-report : goal.returns-clause-report
+returns-clause-report g c = record {
+  plain = c.judge-verdict.result.refusal;
+  subject = c.subject_of-subject.result.now;
+  cause = c.judge-verdict.ensures.cause;
+  agrees = c.judge-verdict.ensures.agrees;
+  spoken = subject (g.S.Shelf.files c.args.shelf.now) (texts c.args.words.now) c.judge-verdict.result.refusal c.judge-verdict.result.text.items c.subject_of-subject.result.now c.judge-verdict.ensures.tells (rw c.as_slice.ensures.value at c.subject_of-subject.ensures);
+  closed = c.close-refusal.ensures.closed;
+}
