@@ -1,16 +1,10 @@
 -- Where a move leads, and what it leaves in the locals.
 use Rattle.std.specs.Prelude.{ℕ, List, Option, Some, None}
 use Rattle.jvm_base.specs.declared.value.Value.{Value}
-use Rattle.frame_ops.specs.declared.answer.Pure.{Pure}
 use Rattle.frame_ops.specs.declared.answer.Pure.TheVariants as pure
-use Rattle.frame_ops.specs.declared.step.Moved.{Moved}
-use Rattle.frame_ops.specs.declared.step.Moved.TheVariants.{Behind, At, Elsewhere}
+use Rattle.frame_ops.specs.declared.moved.Moved.{Moved}
+use Rattle.frame_ops.specs.declared.moved.Moved.TheVariants.{Behind, At, Elsewhere}
 use Rattle.frame_ops.specs.Moves.{Move, Goes, Jumps, Sets, Raises, Throws, Asks, Calls, Leaves, Stuck, locals_set}
-
--- the address that it jumps to
-abbrev pub jump_of : Move → Option ℕ
-jump_of (Jumps to vs) = Some to
-jump_of _ = None
 
 -- the locals after it
 abbrev pub locals_after : Move → List Value → List Value
@@ -29,12 +23,7 @@ moved_of Calls = Elsewhere pure.Call
 moved_of (Leaves v) = Elsewhere (pure.Leave v)
 moved_of Stuck = Behind
 
--- where an address leads, if there is one
-abbrev pub led : Option ℕ → Moved
-led (Some to) = At to
-led None = Behind
-
--- what an answer came to
-abbrev pub told : Pure → Moved
-told pure.Next = Behind
-told p = Elsewhere p
+-- it sets no local
+abbrev pub KeepsLocals : Move → Type 0
+KeepsLocals (Sets i new vs) = ⊥
+KeepsLocals _ = Unit {0}

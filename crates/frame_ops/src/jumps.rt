@@ -4,27 +4,29 @@ ghost use Rattle.std.specs.Prelude.{◌≡◌, ◌∷◌, find, slice_index};
 ghost use Rattle.jvm_base.specs.Stack.{pushed};
 ghost use Rattle.jvm_base.specs.Names.{name_eq};
 ghost use Rattle.frame_ops.specs.Condition.{CanMove, stack_after};
-ghost use Rattle.frame_ops.specs.Jumping.{jump_of};
+ghost use Rattle.frame_ops.specs.Jumping.{moved_of, KeepsLocals};
 ghost use Rattle.frame_ops.specs.Numbers.{distance};
 ghost use Rattle.frame_ops.specs.Operands.{branches_zero, branches_ints, branches_refs, branches_null, same_reference, is_null, passes_refs, passes_null, switches_table, switches_pairs, table_target, is_of_key, pair_target};
 ghost use Rattle.std.specs.Option.{option_copied};
 
+use crate::moved::Moved;
 use crate::numbers::compares;
 use code_table::opcode;
 use jvm_base::{List, Name, Operands, Value};
 
 /// Jumps where an int compares so with 0.
-pub(crate) fn branch_zero(op: u8, to: u32, stack: &mut Operands) -> Option<u32>
+pub(crate) fn branch_zero(op: u8, to: u32, stack: &mut Operands) -> Moved
     requires { CanMove (branches_zero op to stack.old.values) stack.old }
-    ensures jump { result ≡ jump_of (branches_zero op to stack.old.values) }
+    ensures moved { result ≡ moved_of (branches_zero op to stack.old.values) }
+    ensures kept { KeepsLocals (branches_zero op to stack.old.values) }
     ensures stack { stack.new ≡ stack_after (branches_zero op to stack.old.values) stack.old }
 {
     match stack.pop() {
         Some(Value::Int(a)) => {
             if compares(op.saturating_sub(opcode::IFEQ), a, 0) {
-                Some(to)
+                Moved::At(to)
             } else {
-                None
+                Moved::Behind
             }
         }
         _ => unreachable!(),
@@ -32,9 +34,10 @@ pub(crate) fn branch_zero(op: u8, to: u32, stack: &mut Operands) -> Option<u32>
 }
 
 /// Jumps where two ints compare so.
-pub(crate) fn branch_ints(op: u8, to: u32, stack: &mut Operands) -> Option<u32>
+pub(crate) fn branch_ints(op: u8, to: u32, stack: &mut Operands) -> Moved
     requires { CanMove (branches_ints op to stack.old.values) stack.old }
-    ensures jump { result ≡ jump_of (branches_ints op to stack.old.values) }
+    ensures moved { result ≡ moved_of (branches_ints op to stack.old.values) }
+    ensures kept { KeepsLocals (branches_ints op to stack.old.values) }
     ensures stack { stack.new ≡ stack_after (branches_ints op to stack.old.values) stack.old }
 {
     let b = stack.pop();
@@ -42,9 +45,9 @@ pub(crate) fn branch_ints(op: u8, to: u32, stack: &mut Operands) -> Option<u32>
     match (a, b) {
         (Some(Value::Int(a)), Some(Value::Int(b))) => {
             if compares(op.saturating_sub(opcode::IF_ICMPEQ), a, b) {
-                Some(to)
+                Moved::At(to)
             } else {
-                None
+                Moved::Behind
             }
         }
         _ => unreachable!(),
@@ -68,9 +71,10 @@ fn is_same_reference(a: Value, b: Value) -> bool
 }
 
 /// Jumps where two references are one, or where they aren't.
-pub(crate) fn branch_refs(op: u8, to: u32, stack: &mut Operands) -> Option<u32>
+pub(crate) fn branch_refs(op: u8, to: u32, stack: &mut Operands) -> Moved
     requires { CanMove (branches_refs op to stack.old.values) stack.old }
-    ensures jump { result ≡ jump_of (branches_refs op to stack.old.values) }
+    ensures moved { result ≡ moved_of (branches_refs op to stack.old.values) }
+    ensures kept { KeepsLocals (branches_refs op to stack.old.values) }
     ensures stack { stack.new ≡ stack_after (branches_refs op to stack.old.values) stack.old }
 {
     let b = stack.pop();
@@ -78,9 +82,9 @@ pub(crate) fn branch_refs(op: u8, to: u32, stack: &mut Operands) -> Option<u32>
     match (a, b) {
         (Some(a), Some(b)) => {
             if is_same_reference(a, b) == (op == opcode::IF_ACMPEQ) {
-                Some(to)
+                Moved::At(to)
             } else {
-                None
+                Moved::Behind
             }
         }
         _ => unreachable!(),
@@ -94,17 +98,18 @@ fn is_null(value: Value) -> bool
 }
 
 /// Jumps where a reference is null, or where it isn't.
-pub(crate) fn branch_null(op: u8, to: u32, stack: &mut Operands) -> Option<u32>
+pub(crate) fn branch_null(op: u8, to: u32, stack: &mut Operands) -> Moved
     requires { CanMove (branches_null op to stack.old.values) stack.old }
-    ensures jump { result ≡ jump_of (branches_null op to stack.old.values) }
+    ensures moved { result ≡ moved_of (branches_null op to stack.old.values) }
+    ensures kept { KeepsLocals (branches_null op to stack.old.values) }
     ensures stack { stack.new ≡ stack_after (branches_null op to stack.old.values) stack.old }
 {
     match stack.pop() {
         Some(a) => {
             if is_null(a) == (op == opcode::IFNULL) {
-                Some(to)
+                Moved::At(to)
             } else {
-                None
+                Moved::Behind
             }
         }
         None => unreachable!(),
@@ -137,13 +142,14 @@ pub(crate) fn switch_table(
     high: i32,
     to: &[u32],
     stack: &mut Operands,
-) -> Option<u32>
+) -> Moved
     requires { CanMove (switches_table other low high to.now stack.old.values) stack.old }
-    ensures jump { result ≡ jump_of (switches_table other low high to.now stack.old.values) }
+    ensures moved { result ≡ moved_of (switches_table other low high to.now stack.old.values) }
+    ensures kept { KeepsLocals (switches_table other low high to.now stack.old.values) }
     ensures stack { stack.new ≡ stack_after (switches_table other low high to.now stack.old.values) stack.old }
 {
     match stack.pop() {
-        Some(Value::Int(key)) => Some(table_target(other, low, high, to, key)),
+        Some(Value::Int(key)) => Moved::At(table_target(other, low, high, to, key)),
         _ => unreachable!(),
     }
 }
@@ -171,13 +177,14 @@ fn pair_target(other: u32, pairs: &[(i32, u32)], key: i32) -> u32
 }
 
 /// Jumps where pairs lead for a key.
-pub(crate) fn switch_pairs(other: u32, pairs: &[(i32, u32)], stack: &mut Operands) -> Option<u32>
+pub(crate) fn switch_pairs(other: u32, pairs: &[(i32, u32)], stack: &mut Operands) -> Moved
     requires { CanMove (switches_pairs other pairs.now stack.old.values) stack.old }
-    ensures jump { result ≡ jump_of (switches_pairs other pairs.now stack.old.values) }
+    ensures moved { result ≡ moved_of (switches_pairs other pairs.now stack.old.values) }
+    ensures kept { KeepsLocals (switches_pairs other pairs.now stack.old.values) }
     ensures stack { stack.new ≡ stack_after (switches_pairs other pairs.now stack.old.values) stack.old }
 {
     match stack.pop() {
-        Some(Value::Int(key)) => Some(pair_target(other, pairs, key)),
+        Some(Value::Int(key)) => Moved::At(pair_target(other, pairs, key)),
         _ => unreachable!(),
     }
 }

@@ -5,9 +5,9 @@ mod answer;
 mod asks;
 mod jumps;
 mod locals;
+mod moved;
 mod numbers;
 mod operands;
 mod shuffles;
-mod step;
 
 pub use answer::{Fault, Given, Pure};
