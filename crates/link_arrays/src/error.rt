@@ -9,7 +9,7 @@ use thiserror::Error;
 /// Why a program's array types aren't numbered.
 #[derive(Clone, Copy, Debug, PartialEq, Eq, Error)]
 pub enum ArraysErr {
-    /// With them the program would have more than 16,777,216 classes.
+    /// There are more than 16,777,216 classes, counting those of arrays.
     #[error("too many classes")]
     TooMany,
     /// Memory ran out.

@@ -1,4 +1,4 @@
--- The state of the one machine (JVMS2 3.5, 8).
+-- The state of the one machine (JVMS2 3.5 and 8).
 use Rattle.std.specs.Prelude.{ℕ, Bool, true, false, List, [], ◌∷◌, if◌then◌else◌, Option}
 use Rattle.jvm_base.specs.Maps.{find}
 use Rattle.jvm_base.specs.Names.{name_cmp, name_eq}

@@ -21,7 +21,7 @@ pub fn keeps_bodies()
     ensures { KeptLaw }
 {}
 
-/// Apart from the choice's name and pick, a thread has at most one next step.
+/// What a thread does next follows from the state, but for the choice's name and pick.
 pub fn one_next()
     ensures { OneNextLaw }
 {}

@@ -1,4 +1,4 @@
--- Apart from pick and name, a thread has at most one next step.
+-- Two choices of one thread that are both steps differ in name and pick alone.
 use Rattle.std.specs.Prelude.{◌≡◌, Option, Some, None}
 use Rattle.program_image.specs.Program.{Program}
 use Rattle.machine_state.specs.declared.state.Choice.{Choice}
