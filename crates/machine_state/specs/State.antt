@@ -12,7 +12,7 @@ use Rattle.machine_state.specs.declared.state.ClassState.{ClassState}
 use Rattle.machine_state.specs.declared.state.Mode.{Mode}
 use Rattle.machine_state.specs.declared.state.Mode.TheVariants.{Ended}
 
--- one finite map from names to bodies
+-- the bodies of all names that are there
 abbrev pub Heap : Type 0
 Heap = List (Name × ObjectBody)
 
