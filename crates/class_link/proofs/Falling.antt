@@ -20,7 +20,7 @@ are_falling before (f ∷ files) =
     (list_all (is_known before) (option_to_list (super_text f)) && list_all (is_known before) (interface_texts f))
     && are_falling (before ++ this_name f ∷ []) files
 
-one_more : (b any : Bool) (n m : ℕ) → (b || any) ≡ true → (any ≡ true → n < m) → cond (not b) (1 + n) 0 < suc m
+pub one_more : (b any : Bool) (n m : ℕ) → (b || any) ≡ true → (any ≡ true → n < m) → cond (not b) (1 + n) 0 < suc m
 one_more true any n m e h = omega arith
 one_more false any n m e h = let l = h e in omega arith
 

@@ -1,3 +1,4 @@
+pub mod Linked
 pub mod Mains
 pub mod Natives
 pub mod Refusals

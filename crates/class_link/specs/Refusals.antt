@@ -16,15 +16,11 @@ use Rattle.link_rules.specs.Descriptors.{left_out_desc}
 use Rattle.link_rules.specs.Members.{wrong_members, bad_overrides}
 use Rattle.link_rules.specs.Numbers.{numbered, above_rows}
 use Rattle.link_uses.specs.Uses.{no_members, wrong_uses, no_access}
-use Rattle.class_link.specs.Mains.{no_main}
+use Rattle.class_link.specs.Mains.{first_number, no_main}
 
 -- the classes of a program by number
 abbrev pub classes_of : List ClassFile → List ClassFile
 classes_of files = boot_files ++ files
-
--- the number of the first file's class, behind the boot classes
-abbrev pub first_number : ℕ
-first_number = 34
 
 -- same-class, no-class
 unfoldable pub name_refusals : List ClassFile → List ClassFile → List LinkErr
@@ -57,23 +53,20 @@ use_refusals all first files =
 unfoldable pub member_refusals : List ClassFile → ℕ → List ClassFile → List LinkErr
 member_refusals all first files = declared_refusals all first files ++ use_refusals all first files
 
--- the rules from same-class to no-main
-unfoldable pub rule_refusals : List ClassFile → List ℕ → List LinkErr
-rule_refusals files main =
-    name_refusals boot_files files
-    ++ (above_refusals (classes_of files) first_number files
-    ++ (member_refusals (classes_of files) first_number files
-    ++ no_main files main))
-
--- code that isn't decoded, then those rules
-unfoldable pub program_refusals : List ClassFile → List ℕ → List LinkErr
-program_refusals files main = numbered undecoded_file 0 files ++ rule_refusals files main
-
 -- too-many: the declared classes and the array classes are more than there may be
 abbrev pub too_many_classes : List ClassFile → List ℕ → List LinkErr
 too_many_classes files main =
     if too_many (first_number + length files) files then Bad TooMany main [] ∷ [] else []
 
--- all refusals of linking
+-- the rules from same-class to too-many
+unfoldable pub rule_refusals : List ClassFile → List ℕ → List LinkErr
+rule_refusals files main =
+    name_refusals boot_files files
+    ++ (above_refusals (classes_of files) first_number files
+    ++ (member_refusals (classes_of files) first_number files
+    ++ (no_main files main
+    ++ too_many_classes files main)))
+
+-- all refusals of linking: code that isn't decoded, then those rules
 unfoldable pub link_refusals : List ClassFile → List ℕ → List LinkErr
-link_refusals files main = program_refusals files main ++ too_many_classes files main
+link_refusals files main = numbered undecoded_file 0 files ++ rule_refusals files main

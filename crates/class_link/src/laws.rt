@@ -8,7 +8,7 @@ ghost use Rattle.link_members.specs.Rows.{IsFalling};
 ghost use Rattle.link_rules.specs.Classes.{same_class};
 ghost use Rattle.link_rules.specs.Numbers.{above_rows};
 ghost use Rattle.class_link.specs.Natives.{natives};
-ghost use Rattle.class_link.specs.Refusals.{first_number};
+ghost use Rattle.class_link.specs.Mains.{first_number};
 
 /// The boot classes have distinct names, and each has only boot classes before it above it.
 pub fn boot_is_apart()

@@ -1,12 +1,13 @@
-//! Linking: all its refusals in order.
+//! Linking: all its refusals in order, and the image where there are none.
 #![tactic(auto)]
 
 mod count;
 mod laws;
 mod linking;
 mod main_class;
+mod making;
 mod names;
 mod tables;
 
 pub use laws::{boot_is_apart, natives_are_intrinsics};
-pub use linking::check;
+pub use linking::{check, link};

@@ -1,6 +1,6 @@
 //! All refusals of linking, in order.
 
-ghost use Rattle.std.specs.Prelude.{◌≡◌, ◌++◌, ◌+◌, ◌<◌, ◌≤◌, ◌^◌, length, map, All, IfOk};
+ghost use Rattle.std.specs.Prelude.{OnOk, ◌≡◌, ◌++◌, ◌+◌, ◌<◌, ◌≤◌, ◌^◌, length, map, All, IfOk};
 ghost use Rattle.std.specs.List.{flat_map};
 ghost use Rattle.boot_table.specs.Files.{boot_files};
 ghost use Rattle.class_format.specs.Meaning.{IsClass};
@@ -11,11 +11,14 @@ ghost use Rattle.link_rules.specs.Answers.{IsAnswer};
 ghost use Rattle.link_rules.specs.Numbers.{numbered, above_rows, super_rows};
 ghost use Rattle.link_rules.specs.Decoding.{undecoded_file};
 ghost use Rattle.link_rules.specs.Sizes.{HasFewMethods};
-ghost use Rattle.class_link.specs.Mains.{no_main};
-ghost use Rattle.class_link.specs.Refusals.{classes_of, first_number, name_refusals, above_refusals, declared_refusals, use_refusals, member_refusals, rule_refusals, program_refusals, link_refusals};
+ghost use Rattle.link_uses.specs.Tables.{HasRanks};
+ghost use Rattle.class_link.specs.Linked.{linked};
+ghost use Rattle.class_link.specs.Mains.{first_number};
+ghost use Rattle.class_link.specs.Refusals.{classes_of, name_refusals, above_refusals, declared_refusals, use_refusals, member_refusals, rule_refusals, link_refusals};
 
 use crate::count::array_types;
-use crate::main_class::check_main;
+use crate::main_class::main_method;
+use crate::making::image;
 use crate::names::named_program;
 use crate::tables::{FIRST, ranks, resolver, walk_table};
 use boot_table::boot_classes;
@@ -25,6 +28,7 @@ use jvm_base::{List, Units};
 use link_members::{Step, check_declared, check_overrides};
 use link_rules::{LinkErr, Program, check_descs, check_finals, check_kinds, decode_files};
 use link_uses::{Resolver, check_access, check_members, check_uses};
+use program_image::Image;
 use std::alloc::Global;
 
 /// What lies above each class is of the right kind. It answers ranks of the classes.
@@ -106,60 +110,60 @@ fn resolved<'p, 'a>(
     Ok(resolver)
 }
 
-/// The rules on classes, members and uses, and the main class.
+/// The image of the program, where no rule refuses it.
 #[tactic(auto, using(link_rules::proofs::Firsts::answer_back, crate::proofs::BootLaws::class_count), unfolding(crate::specs::Refusals::rule_refusals))]
-fn check_program<'a>(
+fn link_program<'a>(
     alloc: Global,
     boot: &'a [ClassFile],
     files: &'a [ClassFile],
-    codes: &[List<Option<Code>>],
+    codes: List<List<Option<Code>>>,
     main: &[u16],
-) -> Result<(), LinkErr>
+) -> Result<Image, LinkErr>
     requires boot { boot.now ≡ boot_files }
     requires few { length files.now ≤ 1024 }
-    requires codes { codes.now ≡ map codes_of files.now }
-    ensures { IsAnswer (rule_refusals files.now main.now) result }
+    requires formed { All IsClass files.now }
+    requires codes { codes ≡ map codes_of files.now }
+    ensures answer { IsAnswer (rule_refusals files.now main.now) result }
+    ensures image { IfOk result (λ image. image ≡ linked files.now main.now) }
+    ensures ranked { OnOk result (HasRanks (above_rows (classes_of files.now))) }
 {
-    let program = named_program(alloc, boot, files, codes)?;
+    let program = named_program(alloc, boot, files, codes.as_slice())?;
     let ranks = check_above(alloc, &program, files)?;
-    resolved(alloc, &program, ranks.as_slice(), files, codes)?;
-    check_main(alloc, files, main)
+    let resolver = resolved(alloc, &program, ranks.as_slice(), files, codes.as_slice())?;
+    let start = main_method(alloc, files, main)?;
+    let arrays = array_types(alloc, files, codes.as_slice(), main)?;
+    let ranks = ranks.as_slice();
+    let image = image(alloc, &resolver, ranks, &arrays, boot, files, codes, start)?;
+    Ok(image)
 }
 
-/// The files' code, where no rule refuses the files but that of how many classes there are.
-#[tactic(auto, using(link_rules::proofs::Firsts::answer_back), unfolding(crate::specs::Refusals::program_refusals))]
-fn check_rules(
-    alloc: Global,
-    files: &List<ClassFile>,
-    main: &[u16],
-) -> Result<List<List<Option<Code>>>, LinkErr>
+/// Links the files with a main class of that name: the image exactly where none of linking's
+/// refusals comes, else the first of them.
+#[tactic(auto, using(link_rules::proofs::Firsts::answer_back), unfolding(crate::specs::Refusals::link_refusals))]
+pub fn link(alloc: Global, files: &List<ClassFile>, main: &Units) -> Result<Image, LinkErr>
     requires few { length files.now ≤ 1024 }
     requires formed { All IsClass files.now }
-    ensures codes { IfOk result (λ codes. codes ≡ map codes_of files.now) }
-    ensures answer { IsAnswer (program_refusals files.now main.now) result }
+    ensures answer { IsAnswer (link_refusals files.now main.now) result }
+    ensures image { IfOk result (λ image. image ≡ linked files.now main.now) }
+    ensures ranked { OnOk result (HasRanks (above_rows (classes_of files.now))) }
 {
     let codes = decode_files(alloc, files.as_slice())?;
     let boot = boot_classes(alloc)?;
-    check_program(
+    link_program(
         alloc,
         boot.as_slice(),
         files.as_slice(),
-        codes.as_slice(),
-        main,
-    )?;
-    Ok(codes)
+        codes,
+        main.as_slice(),
+    )
 }
 
-/// Whether the files are linked with a main class of that name: Ok exactly where none of linking's
-/// refusals comes, else the first.
-#[tactic(auto, using(link_rules::proofs::Firsts::answer_back), unfolding(crate::specs::Refusals::link_refusals))]
+/// Whether the files are linked with a main class of that name, else the first refusal.
 pub fn check(alloc: Global, files: &List<ClassFile>, main: &Units) -> Result<(), LinkErr>
     requires few { length files.now ≤ 1024 }
     requires formed { All IsClass files.now }
     ensures { IsAnswer (link_refusals files.now main.now) result }
 {
-    let main = main.as_slice();
-    let codes = check_rules(alloc, files, main)?;
-    array_types(alloc, files.as_slice(), codes.as_slice(), main)?;
+    link(alloc, files, main)?;
     Ok(())
 }

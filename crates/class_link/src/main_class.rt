@@ -1,15 +1,17 @@
 //! The main class is there, with the method that a run starts with.
 
-ghost use Rattle.std.specs.Prelude.{◌≡◌, IfOk};
+ghost use Rattle.std.specs.Prelude.{◌≡◌, ◌≤◌, length, position, Some, IfOk};
 ghost use Rattle.std.specs.List.{list_any};
 ghost use Rattle.link_rules.specs.Answers.{IsAnswer};
 ghost use Rattle.link_rules.specs.declared.error.LinkErr.TheVariants.{Bad};
-ghost use Rattle.class_link.specs.Mains.{is_main, declares_main, no_main};
+ghost use Rattle.class_link.specs.Mains.{is_main, declares_main, no_main, main_in, main_found};
 
+use crate::tables::FIRST;
 use class_format::{ClassFile, MethodItem, PUBLIC, STATIC, has_flag};
 use class_names::{is_name, text, this_name};
 use jvm_base::{NoMemory, Units};
 use link_rules::{LinkErr, LinkWhy};
+use link_uses::Found;
 use std::alloc::Global;
 
 /// `main`
@@ -45,10 +47,36 @@ fn declares_main(main: &[u16], file: &ClassFile) -> bool
     is_name(main, this_name(file)) && has_main(file, file.methods.as_slice())
 }
 
-fn is_declared(main: &[u16], files: &[ClassFile]) -> bool
-    ensures { result ≡ list_any (declares_main main.now) files.now }
+fn main_place(file: &ClassFile, methods: &[MethodItem]) -> Option<usize>
+    ensures { result ≡ position (is_main file.now) methods.now }
 {
-    files.iter().any(|file| declares_main(main, file))
+    methods.iter().position(|method| is_main(file, method))
+}
+
+/// The method that a run starts with, in the class of a number.
+fn main_in(number: u32, file: &ClassFile) -> Option<Found>
+    ensures { result ≡ main_in number file.now }
+{
+    let place = main_place(file, file.methods.as_slice())?;
+    Some(Found {
+        class: number,
+        place,
+    })
+}
+
+/// It, in the first file that declares it.
+fn find_main(files: &[ClassFile], main: &[u16]) -> Option<Found>
+    requires { length files.now ≤ 1024 }
+    ensures { result ≡ main_found files.now main.now }
+{
+    let mut number = FIRST;
+    for file in files {
+        if declares_main(main, file) {
+            return main_in(number, file);
+        }
+        number += 1;
+    }
+    None
 }
 
 /// A refusal of the main class.
@@ -67,13 +95,19 @@ pub(crate) fn refusal(
     })
 }
 
-/// One of the files declares the main class, with the method that a run starts with.
-pub(crate) fn check_main(alloc: Global, files: &[ClassFile], main: &[u16]) -> Result<(), LinkErr>
-    ensures { IsAnswer (no_main files.now main.now) result }
+/// The method that a run starts with, which one of the files declares in the main class.
+#[tactic(auto, using(crate::proofs::MainLaws::main_is_declared, crate::proofs::MainLaws::no_main_found))]
+pub(crate) fn main_method(
+    alloc: Global,
+    files: &[ClassFile],
+    main: &[u16],
+) -> Result<Found, LinkErr>
+    requires { length files.now ≤ 1024 }
+    ensures found { IfOk result (λ found. main_found files.now main.now ≡ Some found) }
+    ensures answer { IsAnswer (no_main files.now main.now) result }
 {
-    if is_declared(main, files) {
-        Ok(())
-    } else {
-        Err(refusal(alloc, LinkWhy::NoMain, main, &MAIN)?)
+    match find_main(files, main) {
+        Some(found) => Ok(found),
+        None => Err(refusal(alloc, LinkWhy::NoMain, main, &MAIN)?),
     }
 }

@@ -8,7 +8,8 @@ ghost use Rattle.link_members.specs.Rows.{row_by};
 ghost use Rattle.link_rules.specs.Answers.{IsAnswer};
 ghost use Rattle.link_rules.specs.Classes.{super_loop};
 ghost use Rattle.link_rules.specs.Numbers.{numbered, above_rows, super_rows, interface_rows, field_rows};
-ghost use Rattle.class_link.specs.Refusals.{classes_of, first_number};
+ghost use Rattle.class_link.specs.Mains.{first_number};
+ghost use Rattle.class_link.specs.Refusals.{classes_of};
 
 use class_format::ClassFile;
 use hierarchy::walks;
