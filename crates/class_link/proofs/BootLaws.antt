@@ -1,13 +1,10 @@
 -- What the rules need of the boot classes, found by computing.
-use Rattle.std.proofs.Common.{◌≡◌, ℕ, ◌<◌, true, List, [], ◌++◌, length, refl, ap, arith, ◌+◌}
-use Rattle.std.specs.List.{Contains}
+use Rattle.std.proofs.Common.{◌≡◌, true, List, [], ◌++◌, length, refl, ap, arith, ◌+◌}
 use Rattle.std.proofs.lemmas.List.{length-append}
 use Rattle.boot_table.specs.Files.{boot_files}
 use Rattle.boot_table.specs.Intrinsics.{intrinsics}
 use Rattle.boot_table.specs.Table.{boot_rows, first_rows, exceptions}
 use Rattle.class_format.specs.declared.class.ClassFile.{ClassFile}
-use Rattle.class_names.specs.Classes.{this_name}
-use Rattle.hierarchy.specs.Hierarchy.{row_of}
 use Rattle.link_members.specs.Rows.{IsFalling}
 use Rattle.link_rules.specs.Classes.{same_class}
 use Rattle.link_rules.specs.Numbers.{above_rows}

@@ -1,5 +1,5 @@
 -- Where each class stands behind what lies above it, it does so whatever classes follow.
-use Rattle.std.proofs.Common.{◌≡◌, ℕ, ◌+◌, ◌<◌, Bool, true, false, not, cond, ◌||◌, List, [], ◌∷◌, ◌++◌, Option, Some, None, map, length, position, ap, sym, ◌∙◌, subst, refl, arith, zero, suc, append_assoc}
+use Rattle.std.proofs.Common.{◌≡◌, ℕ, ◌+◌, ◌<◌, Bool, true, false, not, cond, ◌||◌, List, [], ◌∷◌, ◌++◌, Option, Some, None, map, length, position, ap, sym, ◌∙◌, refl, arith, zero, suc, append_assoc}
 use Rattle.std.specs.Prelude.{◌&&◌}
 use Rattle.std.specs.List.{AllByRecursion, Contains, filter_map, cons_option, list_all, list_any, position_or_len}
 use Rattle.std.specs.Option.{option_to_list}

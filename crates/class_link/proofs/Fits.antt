@@ -18,7 +18,7 @@ use Rattle.link_rules.specs.Members.{wrong_members, bad_overrides}
 use Rattle.link_rules.specs.Numbers.{numbered, methods_at}
 use Rattle.link_uses.specs.declared.lookup.Found.{Found}
 use Rattle.class_link.specs.Refusals.{declared_refusals, use_refusals, member_refusals}
-use Rattle.class_link.proofs.BootLaws.{boot_count, class_count}
+use Rattle.class_link.proofs.BootLaws.{class_count}
 use Rattle.class_link.proofs.Small.{pools_few}
 
 -- where no rule on members refuses the files, none declares what it may not

@@ -1,6 +1,6 @@
 -- The main method is found exactly where a file declares it.
-use Rattle.std.proofs.Common.{◌≡◌, ℕ, ◌+◌, ◌<◌, Bool, true, false, not, cond, ◌||◌, List, [], ◌∷◌, ◌++◌, Option, Some, None, length, position, slice_get, refl, sym, ap, ◌∙◌, subst, arith, zero, suc}
-use Rattle.std.specs.Prelude.{◌&&◌, is_some, option_map, nat_lt, if◌then◌else◌}
+use Rattle.std.proofs.Common.{◌≡◌, ℕ, ◌+◌, ◌<◌, Bool, true, false, cond, ◌||◌, List, [], ◌∷◌, ◌++◌, Option, Some, None, length, position, slice_get, refl, sym, ap, ◌∙◌, subst, arith, suc}
+use Rattle.std.specs.Prelude.{is_some, option_map, nat_lt, if◌then◌else◌}
 use Rattle.std.specs.List.{list_any, position_or_len}
 use Rattle.std.proofs.lemmas.Bool.{lt-ltb}
 use Rattle.std.proofs.lemmas.List.Quantifiers.{position-Some}
@@ -8,10 +8,8 @@ use Rattle.jvm_base.specs.Words.{from}
 use Rattle.jvm_base.proofs.Options.{and_parts}
 use Rattle.boot_table.specs.Files.{boot_files}
 use Rattle.class_format.specs.declared.class.ClassFile.{ClassFile}
-use Rattle.class_format.specs.declared.class.MethodItem.{MethodItem}
 use Rattle.class_names.specs.Known.{is_name}
 use Rattle.class_names.specs.Classes.{this_name}
-use Rattle.link_rules.specs.declared.error.LinkErr.{LinkErr}
 use Rattle.link_rules.specs.declared.error.LinkErr.TheVariants.{Bad}
 use Rattle.link_rules.specs.declared.error.LinkWhy.TheVariants.{NoMain}
 use Rattle.link_rules.specs.Numbers.{methods_at}

@@ -1,7 +1,7 @@
 -- Class files are small: their fields, methods and code have numbers of few bytes.
 use Rattle.std.proofs.Common.{◌≡◌, ℕ, ◌+◌, ◌*◌, ◌<◌, ◌≤◌, ◌^◌, Bool, true, false, cond, ◌||◌, List, [], ◌∷◌, ◌++◌, length, Option, Some, None, slice_index_or, refl, ap, ◌∙◌, zero-add, arith}
 use Rattle.std.specs.Prelude.{All, if◌then◌else◌}
-use Rattle.std.specs.List.{AllByRecursion, flat_map, sum_by, count_by}
+use Rattle.std.specs.List.{AllByRecursion, flat_map, sum_by}
 use Rattle.std.proofs.lemmas.List.{length-append}
 use Rattle.std.proofs.lemmas.List.Elements.{All-append}
 use Rattle.std.proofs.lemmas.List.Sums.{sum_by-cons, sum_by-append}
@@ -23,7 +23,7 @@ use Rattle.link_rules.specs.Sizes.{HasFewMethods}
 use Rattle.link_rules.specs.Members.{wrong_field, wrong_method, wrong_members}
 use Rattle.link_image.specs.Methods.{count_methods, natives}
 use Rattle.link_image.specs.Parts.{count_natives, AreSmall}
-use Rattle.link_image.specs.Sizes.{HasFewFields, IsShort, HasShortCode}
+use Rattle.link_image.specs.Sizes.{IsShort, HasShortCode}
 use Rattle.class_link.proofs.BootLaws.{boot_count}
 
 parts : (f : ClassFile) → IsClass f → FormedParts f f.pool

@@ -1,5 +1,5 @@
 -- The answers of one stage after the other.
-use Rattle.std.proofs.Common.{◌≡◌, List, [], ◌++◌, ℕ, map, ap, sym, ◌∙◌, subst}
+use Rattle.std.proofs.Common.{◌≡◌, List, [], ◌++◌, map, ap, sym, ◌∙◌, subst}
 use Rattle.std.proofs.lemmas.List.{map-append}
 use Rattle.link_rules.specs.declared.error.LinkErr.{LinkErr}
 use Rattle.link_rules.specs.Answers.{IsFirst}

@@ -1,4 +1,4 @@
-use Rattle.std.proofs.Common.{◌≡◌, subst}
+use Rattle.std.proofs.Common.{subst}
 use Rattle.std.specs.Prelude.{OnOk}
 use Rattle.link_rules.specs.Numbers.{above_rows}
 use Rattle.link_uses.specs.Tables.{HasRanks}

@@ -1,4 +1,4 @@
-use Rattle.std.proofs.Common.{◌≡◌, ap, sym, subst, arith, length}
+use Rattle.std.proofs.Common.{ap, sym, subst, arith, length}
 use Rattle.std.specs.Prelude.{All}
 use Rattle.boot_table.proofs.BootLaws.{boot_formed}
 use Rattle.link_rules.specs.Sizes.{HasFewMethods}

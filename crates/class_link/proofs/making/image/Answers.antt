@@ -1,9 +1,8 @@
-use Rattle.std.proofs.Common.{◌≡◌, ℕ, List, ◌++◌, map, ap, sym, ◌∙◌, subst}
+use Rattle.std.proofs.Common.{◌≡◌, List, ◌++◌, map, ap, sym, ◌∙◌, subst}
 use Rattle.std.proofs.lemmas.List.{map-append}
 use Rattle.boot_table.specs.Files.{boot_files}
 use Rattle.class_format.specs.declared.class.ClassFile.{ClassFile}
 use Rattle.class_names.specs.Classes.{codes_of}
-use Rattle.jvm_base.specs.declared.desc.Desc.{Desc}
 use Rattle.link_arrays.specs.Arrays.{array_types}
 use Rattle.link_arrays.specs.Literals.{literals}
 use Rattle.link_image.specs.Image.{image_of}
