@@ -11,7 +11,7 @@ use Rattle.class_file.specs.Reading.Classes.{class_at}
 use Rattle.class_file.proofs.ClassLaws.{class_again}
 use Rattle.class_file.proofs.Refused.{refused_comes}
 use Rattle.link_rules.specs.declared.error.LinkErr.{LinkErr}
-use Rattle.class_link.specs.Refusals.{program_refusals}
+use Rattle.class_link.specs.Refusals.{link_refusals}
 use Rattle.thin_file.specs.declared.thin.ThinCode.{ThinCode}
 use Rattle.one_jvm.specs.declared.outcome.Refusal.{Refusal}
 use Rattle.one_jvm.specs.declared.outcome.Refusal.TheVariants.{Usage, File, Link, NoFile, ReadFault, WriteFault, TooLong, NotYet, NoMemory}
@@ -115,7 +115,7 @@ AtThin contents = Tests (λ v. (v ≡ Some NotYet) × ((code : ThinCode) → ¬ 
 
 -- class files are linked or aren't
 abbrev AtLink : Option (List ℕ) → List (Option (List ℕ)) → List ClassFile → Option Refusal → Type 0
-AtLink main contents classes = Tests (λ v. (e : LinkErr) × (v ≡ Some (Link e)) × (slice_get (program_refusals classes (main_of main classes)) 0 ≡ Some e)) (λ (u : Unit {0}). program_refusals classes (main_of main classes) ≡ []) (λ u. AtThin contents)
+AtLink main contents classes = Tests (λ v. (e : LinkErr) × (v ≡ Some (Link e)) × (slice_get (link_refusals classes (main_of main classes)) 0 ≡ Some e)) (λ (u : Unit {0}). link_refusals classes (main_of main classes) ≡ []) (λ u. AtThin contents)
 
 -- files are class files or aren't
 abbrev AtFiles : Option (List ℕ) → List (Option (List ℕ)) → Option Refusal → Type 0
@@ -145,9 +145,9 @@ no_first (x ∷ xs) e p q = absurd cc
 
 one_at_link : (main : Option (List ℕ)) (contents : List (Option (List ℕ))) (classes : List ClassFile) (v w : Option Refusal) → AtLink main contents classes v → AtLink main contents classes w → v ≡ w
 one_at_link main contents classes = one_stage _ _ _
-    (λ v w p q. p.1 ∙ ap (λ (e : LinkErr). Some (Link e)) (one_first (program_refusals classes (main_of main classes)) p.0 q.0 p.2 q.2) ∙ sym q.1)
+    (λ v w p q. p.1 ∙ ap (λ (e : LinkErr). Some (Link e)) (one_first (link_refusals classes (main_of main classes)) p.0 q.0 p.2 q.2) ∙ sym q.1)
     (λ a b p q. refl)
-    (λ v a p l. no_first (program_refusals classes (main_of main classes)) p.0 p.2 l)
+    (λ v a p l. no_first (link_refusals classes (main_of main classes)) p.0 p.2 l)
     (λ a v w l p q. one_at_thin contents v w p q)
 
 -- a reading answers one error

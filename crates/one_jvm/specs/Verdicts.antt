@@ -11,7 +11,7 @@ use Rattle.class_file.specs.declared.error.ClassErr.{ClassErr}
 use Rattle.class_file.specs.Refused.{IsRefused}
 use Rattle.class_names.specs.Classes.{this_name}
 use Rattle.link_rules.specs.declared.error.LinkErr.{LinkErr}
-use Rattle.class_link.specs.Refusals.{program_refusals}
+use Rattle.class_link.specs.Refusals.{link_refusals}
 use Rattle.thin_file.specs.declared.thin.ThinCode.{ThinCode}
 use Rattle.thin_file.specs.Thin.{IsThin}
 use Rattle.one_jvm.specs.declared.outcome.Refusal.{Refusal}
@@ -86,14 +86,14 @@ main_of (Some word) classes = class_word word
 pub record AreLinked (main : Option (List ℕ)) (contents : List (Option (List ℕ))) : Type 0 where
   pub classes : List ClassFile
   pub are : AreClassFiles contents classes
-  pub links : program_refusals classes (main_of main classes) ≡ []
+  pub links : link_refusals classes (main_of main classes) ≡ []
 
 -- class files that aren't, and the first refusal that they have
 pub record AreRefused (e : LinkErr) (main : Option (List ℕ)) (contents : List (Option (List ℕ)))
     : Type 0 where
   pub classes : List ClassFile
   pub are : AreClassFiles contents classes
-  pub first : slice_get (program_refusals classes (main_of main classes)) 0 ≡ Some e
+  pub first : slice_get (link_refusals classes (main_of main classes)) 0 ≡ Some e
 
 -- one thin file alone, which has this program
 pub record IsThinFile (code : ThinCode) (contents : List (Option (List ℕ))) : Type 0 where

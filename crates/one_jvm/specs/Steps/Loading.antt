@@ -6,7 +6,7 @@ use Rattle.class_format.specs.declared.class.ClassFile.{ClassFile}
 use Rattle.class_format.specs.Meaning.{Spells}
 use Rattle.class_file.specs.Refused.{IsRefused}
 use Rattle.link_rules.specs.declared.error.LinkErr.{LinkErr}
-use Rattle.class_link.specs.Refusals.{program_refusals}
+use Rattle.class_link.specs.Refusals.{link_refusals}
 use Rattle.thin_file.specs.declared.thin.ThinCode.{ThinCode}
 use Rattle.thin_file.specs.Thin.{IsThin}
 use Rattle.one_jvm.specs.declared.loading.Loaded.{Loaded}
@@ -109,7 +109,7 @@ Loads told names before now (Err e) =
 
 -- what linking refuses of some classes
 abbrev pub refusals_of : Asked → List ClassFile → List LinkErr
-refusals_of asked classes = program_refusals classes (main_of asked.main classes)
+refusals_of asked classes = link_refusals classes (main_of asked.main classes)
 
 -- the classes aren't linked, or memory ran out
 abbrev pub IsUnlinked : List LinkErr → Refusal → Type 0
