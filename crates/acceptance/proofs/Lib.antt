@@ -1,0 +1,11 @@
+pub mod DecodedFacts
+pub mod Typed
+pub mod SmallOps
+pub mod TypedLaws
+pub mod MethodLaws
+pub mod LinkedLaws
+pub mod TreeLaws
+pub mod LevelLaws
+pub mod SuperLaws
+pub mod FilledLaws
+pub mod Verifiable
