@@ -10,11 +10,11 @@ ghost use Rattle.jvm_base.specs.Words.{from};
 ghost use Rattle.link_image.specs.Methods.{no_method_desc, natives, natives_before, body_of, method_info, class_methods, method_infos};
 
 use crate::reversed::reversed;
-use class_format::{ClassFile, MethodItem, has_flag};
+use class_format::{ClassFile, MethodItem, NATIVE, has_flag};
 use class_names::text;
 use code_table::Code;
 use jvm_base::{List, MethodDesc, NoMemory, PoolItem, Units};
-use link_rules::{NATIVE, Program};
+use link_rules::Program;
 use program_image::{Body, MethodInfo};
 use std::alloc::Global;
 
