@@ -48,7 +48,8 @@ use Rattle.link_image.specs.Constants.{item_value, constant_value}
 use Rattle.link_image.specs.Image.{image_of}
 use Rattle.link_image.specs.Methods.{natives_before, natives, class_methods, method_info, method_infos, body_of, no_method_desc, first_method}
 use Rattle.link_image.specs.Targets.{Known, known, field_target, field_at, method_at, op_target, placing, placed_target, caught, entry_target, method_targets, class_targets, all_targets}
-use Rattle.link_image.proofs.ClassLaws.{class_within, number_within, count_infos}
+use Rattle.link_arrays.proofs.ArrayLaws.{class_within, number_within}
+use Rattle.link_image.proofs.ClassLaws.{count_infos}
 use Rattle.link_image.proofs.ListLaws.{all_append, all_map_from, all_numbered, all_flat, all_at}
 use Rattle.instruction_table.specs.ClassTypes.{array_at, method_at as info_at}
 use Rattle.flow_verifier.specs.Methods.{ops_of}
