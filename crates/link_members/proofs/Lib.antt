@@ -1,3 +1,6 @@
 pub mod LoopLaws
 pub mod RowLaws
 pub mod SuperLaws
+mod DeclaredLaws
+mod NearLaws
+mod DeclaredWalks

@@ -1,8 +1,10 @@
 //! Rules of linking on what lies above a class, and on the members that it declares.
 #![tactic(auto)]
 
+mod declarations;
 mod declared;
 mod loops;
+mod near;
 mod overrides;
 mod packages;
 mod row_table;
