@@ -5,8 +5,10 @@ use Rattle.jvm_base.specs.Words.{from}
 use Rattle.flow_types.specs.declared.flow_type.FlowType.{FlowType}
 use Rattle.instruction_table.specs.declared.rule.TheConstants as rule
 use Rattle.std.proofs.Common.{◌<◌, length}
-use Rattle.std.specs.Prelude.{get_or, slice_get}
-use Rattle.std.proofs.lemmas.Option.{slice_get-get_or}
+use Rattle.std.specs.Prelude.{get_or, slice_get, map}
+use Rattle.std.specs.Option.{option_map}
+use Rattle.std.proofs.lemmas.Option.{slice_get-get_or, slice_get-map}
+use Rattle.instruction_table.specs.declared.row.Row.{Row}
 use Rattle.code_table.specs.declared.code.Placed.{Placed}
 use Rattle.program_image.specs.Program.{Program}
 use Rattle.instruction_table.specs.Working.{site_of, next}
@@ -55,3 +57,13 @@ rules_at p m i o w r lt e h = rw (slice_get-get_or (ops_of p m.number) i o lt, s
 
 pub next_at : (p : Program) (m : Method) (i : ℕ) (o : Placed) (w v : Work) → i < length (ops_of p m.number) → o ≡ get_or (ops_of p m.number) i o → v ≡ next (site_of p m.number) (row_at p m o) w → v ≡ next_there p m (slice_get (ops_of p m.number) i) w
 next_at p m i o w v lt e h = rw (slice_get-get_or (ops_of p m.number) i o lt, sym e) h
+
+-- the row of each instruction stands at its place
+pub row_there : (p : Program) (m : Method) (rows : List Row) (i : ℕ) (o : Placed) (r : Row) → rows ≡ map (row_at p m) (ops_of p m.number) → slice_get (ops_of p m.number) i ≡ Some o → slice_get rows i ≡ Some r → r ≡ row_at p m o
+row_there p m rows i o r e f g =
+    let h : Some (row_at p m o) ≡ Some r = sym (ap (option_map (row_at p m)) f) ∙ sym (slice_get-map (row_at p m) (ops_of p m.number) i) ∙ sym (ap (λ z. slice_get z i) e) ∙ g in
+    let k : row_at p m o ≡ r = cc in sym k
+
+pub no_row : (p : Program) (m : Method) (rows : List Row) (i : ℕ) (o : Placed) → rows ≡ map (row_at p m) (ops_of p m.number) → slice_get (ops_of p m.number) i ≡ Some o → slice_get rows i ≡ None → ⊥
+no_row p m rows i o e f g =
+    let h : Some (row_at p m o) ≡ None = sym (ap (option_map (row_at p m)) f) ∙ sym (slice_get-map (row_at p m) (ops_of p m.number) i) ∙ sym (ap (λ z. slice_get z i) e) ∙ g in absurd cc

@@ -16,14 +16,14 @@ use Rattle.flow_verifier.specs.declared.method.Edge.{Edge}
 use Rattle.flow_verifier.specs.declared.method.Edge.TheVariants.{Next, Caught}
 use Rattle.flow_verifier.specs.declared.rising.Rising.{Rising}
 use Rattle.flow_verifier.specs.declared.visit.Visit.{Visit}
-use Rattle.flow_verifier.specs.Methods.{ops_of, room_of, IsMethod}
+use Rattle.flow_verifier.specs.Methods.{room_of, IsMethod}
 use Rattle.flow_verifier.specs.Given.{given, target, edges, is_caught}
 use Rattle.flow_verifier.specs.Typing.{frame_at}
 use Rattle.flow_verifier.specs.Flowing.{Flows, IsAlike}
 use Rattle.flow_verifier.specs.Going.{IsFlagged, IsGoing, IsPartly, IsMarked, IsCatcher, IsFlowing, IsVisiting}
 use Rattle.flow_verifier.specs.Potential.{potential}
 use Rattle.flow_verifier.proofs.GivenLaws.{given-clash, given-open, given-frame, edge-is}
-use Rattle.flow_verifier.proofs.Worklist.{partly-start, partly-end, skip, flag-set, flag-clear, flag-length}
+use Rattle.flow_verifier.proofs.Worklist.{partly-start, partly-end, flag-set, flag-clear, flag-length}
 use Rattle.flow_verifier.proofs.Ways.{edge-target, edge-step, edge-falls, flows-at}
 
 -- ---- the flags

@@ -1,5 +1,5 @@
 -- One way from an instruction, as the code goes it.
-use Rattle.std.proofs.Common.{refl, slice_set, ◌∙◌, sym, ap, ◌≡◌, subst, ℕ, zero, suc, ◌+◌, ◌<◌, ◌≤◌, List, [], ◌∷◌, ◌++◌, length, slice_get, Option, Some, None, Result, Ok, Err, ◌⊎◌, inl, inr, Bool, true, false, add-one, arith}
+use Rattle.std.proofs.Common.{refl, slice_set, ◌∙◌, sym, ap, ◌≡◌, subst, ℕ, zero, suc, ◌+◌, ◌<◌, ◌≤◌, List, [], ◌∷◌, ◌++◌, length, slice_get, Option, Some, Result, Ok, Err, ◌⊎◌, inl, inr, Bool, true, false, add-one, arith}
 use Rattle.std.specs.Prelude.{OnOk}
 use Rattle.flow_types.specs.Tree.{superclasses, IsTree}
 use Rattle.program_image.specs.Program.{Program}
@@ -10,9 +10,9 @@ use Rattle.flow_verifier.specs.declared.method.Edge.TheVariants.{Next, Caught}
 use Rattle.flow_verifier.specs.Methods.{ops_of, IsMethod}
 use Rattle.flow_verifier.specs.Given.{given, target, edges}
 use Rattle.flow_verifier.proofs.GivenLaws.{given-frame, IsEdge, edge-is}
-use Rattle.flow_verifier.specs.Typing.{frame_at, FitsPlace}
+use Rattle.flow_verifier.specs.Typing.{frame_at}
 use Rattle.flow_verifier.specs.Going.{In, IsPartly}
-use Rattle.flow_verifier.specs.Flowing.{Flows, Rose, IsAlike, stays, rises, waits}
+use Rattle.flow_verifier.specs.Flowing.{Flows, Rose, stays, rises, waits}
 use Rattle.flow_verifier.specs.Potential.{potential}
 use Rattle.flow_verifier.proofs.Worklist.{flow, partly-step}
 use Rattle.flow_verifier.proofs.PotentialLaws.{flow-falls}

@@ -9,12 +9,14 @@ ghost use Rattle.instruction_table.specs.LowestRule.{lowest};
 ghost use Rattle.instruction_table.specs.Rows.{jumps, falls};
 ghost use Rattle.instruction_table.specs.Working.{site_of, slots, row_rules, next};
 ghost use Rattle.flow_verifier.specs.Methods.{ops_of, place_of, IsMethod};
+ghost use Rattle.flow_verifier.specs.Going.{IsKnown};
 ghost use Rattle.flow_verifier.specs.Given.{work_of, frame_of_work, depth_rules, is_missing, after_rules, last_rules, row_at, is_past, op_rules, is_bad_at, place_rules, rules_there, open_rules, broken, next_there, frame_after, frame_caught, given, jump_edges, fall_edges, covers, catching, edges_there, edges};
 
+use crate::facts::Facts;
 use crate::method::{Edge, Method, ops_of};
 use code_table::Placed;
-use flow_types::{FlowFrame, is_sub};
-use instruction_table::{Stack, THROWABLE, Work, falls, lower, row_of, rule};
+use flow_types::FlowFrame;
+use instruction_table::{Row, Stack, Work, falls, lower, rule};
 use jvm_base::NoMemory;
 use program_image::Image;
 use std::alloc::Global;
@@ -32,19 +34,17 @@ fn depth_rule(stack: &Stack, max: u32) -> Option<u8>
 
 /// The rule that is broken at a place whatever the frame.
 #[tactic(auto, using(crate::proofs::Fitting::crowded_first))]
-fn place_rule(image: &Image, m: &Method, i: usize) -> Option<u8>
+fn place_rule(image: &Image, m: &Method, facts: &Facts, i: usize) -> Option<u8>
+    requires known { IsKnown image.now m.now facts.now }
     ensures { result ≡ lowest (place_rules image.now m.now i) }
 {
     if i == 0 && m.crowded {
-        return Some(rule::NO_LOCAL);
+        Some(rule::NO_LOCAL)
+    } else if facts.is_bad(i) {
+        Some(rule::HANDLER)
+    } else {
+        None
     }
-    let handlers = m.handlers.as_slice();
-    for k in 0..handlers.len() {
-        if handlers[k].to as usize == i && !is_sub(image, handlers[k].class, THROWABLE) {
-            return Some(rule::HANDLER);
-        }
-    }
-    None
 }
 
 /// A frame at work, and the lowest rule that is broken.
@@ -91,25 +91,25 @@ fn lowest_of(
     lower(before, lower(broken, lower(after, last)))
 }
 
-/// Lets an instruction work on a frame.
+/// Lets an instruction work on a frame, by its row.
 fn work_on(
-    alloc: Global,
     image: &Image,
     m: &Method,
     i: usize,
     count: usize,
     placed: &Placed,
+    row: &Row,
     mut work: Work,
 ) -> Result<Worked, NoMemory>
     requires within { m.now.number < length image.now.methods }
+    requires row { row.now ≡ row_at image.now m.now placed.now }
     requires count { count ≡ length (ops_of image.now m.now.number) }
     requires place { i < count }
     ensures rule { IfOk result (λ w. w.rule ≡ lowest (op_rules image.now m.now i placed.now work)) }
     ensures work { IfOk result (λ w. w.work ≡ next (site_of image.now m.now.number) (row_at image.now m.now placed.now) work) }
 {
     let before = depth_rule(&work.stack, m.max_stack);
-    let row = row_of(alloc, image, m.number, placed.at, &placed.op)?;
-    let broken = work.run(image, m.number, &row)?;
+    let broken = work.run(image, m.number, row)?;
     let after = after_rule(broken, &work.stack, m.max_stack);
     let last = last_rule(placed, i, count);
     Ok(Worked {
@@ -135,26 +135,40 @@ fn begin(alloc: Global, f: &FlowFrame) -> Result<Work, NoMemory>
     })
 }
 
+/// The row of the instruction at a place.
+#[tactic(auto, using(crate::proofs::Rules::row_there, crate::proofs::Rules::no_row))]
+fn row_at<'f>(image: &Image, m: &Method, facts: &'f Facts, i: usize, placed: &Placed) -> &'f Row
+    requires known { IsKnown image.now m.now facts.now }
+    requires placed { slice_get (ops_of image.now m.now.number) i ≡ Some placed.now }
+    ensures { result.now ≡ row_at image.now m.now placed.now }
+{
+    match facts.rows.get(i) {
+        Some(row) => row,
+        None => unreachable!(),
+    }
+}
+
 /// Lets the instruction at a place work on a frame.
-#[tactic(auto, using(crate::proofs::Rules::rules_at, crate::proofs::Rules::next_at))]
 fn work_there(
-    alloc: Global,
     image: &Image,
     m: &Method,
+    facts: &Facts,
     i: usize,
     work: Work,
 ) -> Result<Worked, NoMemory>
     requires within { m.now.number < length image.now.methods }
+    requires known { IsKnown image.now m.now facts.now }
     ensures rule { IfOk result (λ w. w.rule ≡ lowest (rules_there image.now m.now i (slice_get (ops_of image.now m.now.number) i) work)) }
     ensures work { IfOk result (λ w. w.work ≡ next_there image.now m.now (slice_get (ops_of image.now m.now.number) i) work) }
 {
     let ops = ops_of(image, m.number);
-    if i >= ops.len() {
-        return Ok(Worked { work, rule: None });
+    match ops.get(i) {
+        Some(placed) => {
+            let row = row_at(image, m, facts, i, placed);
+            work_on(image, m, i, ops.len(), placed, row, work)
+        }
+        None => Ok(Worked { work, rule: None }),
     }
-    let placed = &ops[i];
-    let worked = work_on(alloc, image, m, i, ops.len(), placed, work)?;
-    Ok(worked)
 }
 
 /// What the instruction at a place makes of an open frame.
@@ -163,15 +177,17 @@ fn work_at(
     alloc: Global,
     image: &Image,
     m: &Method,
+    facts: &Facts,
     i: usize,
     f: &FlowFrame,
 ) -> Result<Worked, NoMemory>
     requires within { m.now.number < length image.now.methods }
+    requires known { IsKnown image.now m.now facts.now }
     ensures rule { IfOk result (λ w. w.rule ≡ lowest (open_rules image.now m.now i f.now)) }
     ensures work { IfOk result (λ w. w.work ≡ next_there image.now m.now (slice_get (ops_of image.now m.now.number) i) (work_of f.now)) }
 {
-    let place = place_rule(image, m, i);
-    let worked = work_there(alloc, image, m, i, begin(alloc, f)?)?;
+    let place = place_rule(image, m, facts, i);
+    let worked = work_there(image, m, facts, i, begin(alloc, f)?)?;
     Ok(Worked {
         work: worked.work,
         rule: lower(place, worked.rule),
@@ -184,16 +200,18 @@ pub(crate) fn broken_rule(
     alloc: Global,
     image: &Image,
     m: &Method,
+    facts: &Facts,
     i: usize,
     f: &FlowFrame,
 ) -> Result<Option<u8>, NoMemory>
     requires within { m.now.number < length image.now.methods }
+    requires known { IsKnown image.now m.now facts.now }
     ensures { IfOk result (λ r. r ≡ lowest (broken image.now m.now i f.now)) }
 {
     if f.clash {
         return Ok(Some(rule::CLASH));
     }
-    Ok(work_at(alloc, image, m, i, f)?.rule)
+    Ok(work_at(alloc, image, m, facts, i, f)?.rule)
 }
 
 fn frame_of_work(work: Work) -> FlowFrame
@@ -213,16 +231,18 @@ pub(crate) fn given_next(
     alloc: Global,
     image: &Image,
     m: &Method,
+    facts: &Facts,
     i: usize,
     f: &FlowFrame,
 ) -> Result<FlowFrame, NoMemory>
     requires within { m.now.number < length image.now.methods }
+    requires known { IsKnown image.now m.now facts.now }
     ensures { IfOk result (λ g. (to : ℕ) → g ≡ given image.now m.now i f.now (Edge.Next to)) }
 {
     if f.clash {
         return Ok(FlowFrame::clash(alloc));
     }
-    let worked = work_at(alloc, image, m, i, f)?;
+    let worked = work_at(alloc, image, m, facts, i, f)?;
     match worked.rule {
         Some(_) => Ok(FlowFrame::clash(alloc)),
         None => Ok(frame_of_work(worked.work)),

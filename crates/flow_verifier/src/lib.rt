@@ -3,6 +3,7 @@
 
 mod answer;
 mod edges;
+mod facts;
 mod frames;
 mod given;
 mod method;

@@ -71,7 +71,8 @@ fn no_frames(alloc: Global, count: usize) -> Result<List<Option<FlowFrame>>, NoM
     Ok(frames)
 }
 
-fn no_flags(alloc: Global, count: usize) -> Result<List<bool>, NoMemory>
+/// A flag for each place, none of them set.
+pub(crate) fn no_flags(alloc: Global, count: usize) -> Result<List<bool>, NoMemory>
     ensures { IfOk result (λ qs. qs ≡ replicate count false) }
 {
     let mut flags = List::new(alloc);

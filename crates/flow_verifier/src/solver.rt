@@ -4,7 +4,9 @@ ghost use Rattle.std.specs.Prelude.{◌≡◌, ◌+◌, ◌≤◌, IfOk};
 ghost use Rattle.flow_types.specs.Tree.{superclasses, IsTree};
 ghost use Rattle.flow_verifier.specs.Methods.{IsMethod};
 ghost use Rattle.flow_verifier.specs.Typing.{IsLeast, most_steps};
+ghost use Rattle.flow_verifier.specs.Going.{IsKnown};
 
+use crate::facts::Facts;
 use crate::method::Method;
 use crate::rising::Rising;
 use flow_types::{FlowFrame, Steps};
@@ -18,16 +20,18 @@ pub(crate) fn solve<L: Ledger>(
     alloc: Global,
     image: &Image,
     m: &Method,
+    facts: &Facts,
     steps: &mut Steps<L>,
 ) -> Result<List<Option<FlowFrame>>, NoMemory>
     requires tree { IsTree (superclasses image.now) }
     requires fine { IsMethod image.now m.now }
+    requires known { IsKnown image.now m.now facts.now }
     ensures least { IfOk result (λ fs. IsLeast image.now m.now fs) }
     ensures cost { steps.new ≤ steps.old + most_steps image.now m.now }
 {
     let mut rising = Rising::start(alloc, image, m)?;
     while let Some(at) = rising.pop() {
-        rising.visit(alloc, image, m, at, steps)?;
+        rising.visit(alloc, image, m, facts, at, steps)?;
     }
     Ok(rising.frames)
 }

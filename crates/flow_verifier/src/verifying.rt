@@ -5,9 +5,11 @@ ghost use Rattle.program_image.specs.Program.{Program};
 ghost use Rattle.program_image.specs.Handlers.{code_of};
 ghost use Rattle.flow_types.specs.Tree.{superclasses, IsTree};
 ghost use Rattle.flow_verifier.specs.Methods.{ops_of, method_of, IsMethod, IsVerifiable};
+ghost use Rattle.flow_verifier.specs.Going.{IsKnown};
 ghost use Rattle.flow_verifier.specs.Typing.{frame_at, Judged, most_steps, rule_of, NoneBroken, IsFirst};
 
 use crate::answer::{FlowErr, VerifyErr};
+use crate::facts::Facts;
 use crate::frames::Frames;
 use crate::given::broken_rule;
 use crate::method::{Method, method_with, ops_of};
@@ -32,14 +34,16 @@ fn rule_at(
     alloc: Global,
     image: &Image,
     m: &Method,
+    facts: &Facts,
     frames: &List<Option<FlowFrame>>,
     i: usize,
 ) -> Result<Option<u8>, NoMemory>
     requires within { m.now.number < length image.now.methods }
+    requires known { IsKnown image.now m.now facts.now }
     ensures { IfOk result (λ r. r ≡ rule_of image.now m.now i (frame_at frames.now i)) }
 {
     match frames.get(i) {
-        Some(Some(f)) => broken_rule(alloc, image, m, i, f),
+        Some(Some(f)) => broken_rule(alloc, image, m, facts, i, f),
         _ => Ok(None),
     }
 }
@@ -58,17 +62,48 @@ fn first_broken(
     alloc: Global,
     image: &Image,
     m: &Method,
+    facts: &Facts,
     frames: &List<Option<FlowFrame>>,
 ) -> Result<Option<Breach>, NoMemory>
     requires within { m.now.number < length image.now.methods }
+    requires known { IsKnown image.now m.now facts.now }
     ensures { IfOk result (λ o. MatchOption o (NoneBroken image.now m.now frames.now (length frames.now)) (λ e. IsFirst image.now m.now frames.now e.rule e.place)) }
 {
     for place in 0..frames.len() {
-        if let Some(rule) = rule_at(alloc, image, m, frames, place)? {
+        if let Some(rule) = rule_at(alloc, image, m, facts, frames, place)? {
             return Ok(Some(Breach { rule, place }));
         }
     }
     Ok(None)
+}
+
+/// The typing of a method of which the facts are known, or the first rule that it breaks.
+fn judge<L: Ledger>(
+    alloc: Global,
+    image: &Image,
+    m: &Method,
+    facts: &Facts,
+    steps: &mut Steps<L>,
+) -> Result<List<Option<FlowFrame>>, VerifyErr>
+    requires tree { IsTree (superclasses image.now) }
+    requires fine { IsMethod image.now m.now }
+    requires known { IsKnown image.now m.now facts.now }
+    ensures verdict { Judged image.now m.now result }
+    ensures cost { steps.new ≤ steps.old + most_steps image.now m.now }
+{
+    let frames = match solve(alloc, image, m, facts, steps) {
+        Ok(frames) => frames,
+        Err(NoMemory) => return Err(VerifyErr::NoMemory),
+    };
+    match first_broken(alloc, image, m, facts, &frames) {
+        Err(NoMemory) => Err(VerifyErr::NoMemory),
+        Ok(Some(breach)) => Err(VerifyErr::Flow(FlowErr {
+            method: m.number,
+            rule: breach.rule,
+            at: address_of(image, m, breach.place),
+        })),
+        Ok(None) => Ok(frames),
+    }
 }
 
 /// The typing of a method that is made ready, or the first rule that it breaks.
@@ -83,19 +118,8 @@ fn verify_ready<L: Ledger>(
     ensures verdict { Judged image.now m.now result }
     ensures cost { steps.new ≤ steps.old + most_steps image.now m.now }
 {
-    let frames = match solve(alloc, image, m, steps) {
-        Ok(frames) => frames,
-        Err(NoMemory) => return Err(VerifyErr::NoMemory),
-    };
-    match first_broken(alloc, image, m, &frames) {
-        Err(NoMemory) => Err(VerifyErr::NoMemory),
-        Ok(Some(breach)) => Err(VerifyErr::Flow(FlowErr {
-            method: m.number,
-            rule: breach.rule,
-            at: address_of(image, m, breach.place),
-        })),
-        Ok(None) => Ok(frames),
-    }
+    let facts = Facts::new(alloc, image, m)?;
+    judge(alloc, image, m, &facts, steps)
 }
 
 /// The typing of a method with code, a frame or none for each of its instructions, or the first

@@ -7,12 +7,13 @@ ghost use Rattle.flow_types.specs.Tree.{superclasses, IsTree};
 ghost use Rattle.flow_verifier.specs.Methods.{IsMethod};
 ghost use Rattle.flow_verifier.specs.Given.{edges, is_caught};
 ghost use Rattle.flow_verifier.specs.Typing.{frame_at};
-ghost use Rattle.flow_verifier.specs.Going.{IsMarked, IsGoing, IsCatcher, IsFlowing, IsVisiting};
+ghost use Rattle.flow_verifier.specs.Going.{IsKnown, IsMarked, IsGoing, IsCatcher, IsFlowing, IsVisiting};
 ghost use Rattle.flow_verifier.specs.Potential.{potential};
 ghost use Rattle.flow_types.specs.declared.flow_type.FlowType.TheVariants.{Class};
 ghost use Rattle.flow_verifier.specs.declared.method.Edge.TheVariants.{Caught};
 
 use crate::edges::edges_of;
+use crate::facts::Facts;
 use crate::given::given_next;
 use crate::method::{Edge, Method};
 use crate::rising::Rising;
@@ -99,14 +100,16 @@ fn flowing(
     alloc: Global,
     image: &Image,
     m: &Method,
+    facts: &Facts,
     at: u32,
     f: &FlowFrame,
 ) -> Result<Visit, NoMemory>
     requires fine { IsMethod image.now m.now }
+    requires known { IsKnown image.now m.now facts.now }
     ensures at { IfOk result (λ v. v.at ≡ at) }
     ensures flowing { IfOk result (λ v. IsFlowing image.now m.now f.now v) }
 {
-    let next = given_next(alloc, image, m, at as usize, f)?;
+    let next = given_next(alloc, image, m, facts, at as usize, f)?;
     let edges = edges_of(alloc, image, m, at)?;
     let caught = caught_for(alloc, edges.as_slice(), f)?;
     Ok(Visit {
@@ -134,17 +137,19 @@ impl Rising {
         alloc: Global,
         image: &Image,
         m: &Method,
+        facts: &Facts,
         at: u32,
     ) -> Result<Option<Visit>, NoMemory>
         requires tree { IsTree (superclasses image.now) }
         requires fine { IsMethod image.now m.now }
+        requires known { IsKnown image.now m.now facts.now }
         requires marked { IsMarked self.now }
         requires going { IsGoing image.now m.now self.now.frames (self.now.todo ++ at ∷ []) }
         ensures at { IfOk result (λ o. MatchOption o (frame_at self.now.frames at ≡ None) (λ v. v.at ≡ at)) }
         ensures visiting { IfOk result (λ o. MatchOption o (IsGoing image.now m.now self.now.frames self.now.todo) (λ v. IsVisiting image.now m.now v 0 self.now)) }
     {
         match frame_at(&self.frames, at) {
-            Some(f) => Ok(Some(flowing(alloc, image, m, at, f)?)),
+            Some(f) => Ok(Some(flowing(alloc, image, m, facts, at, f)?)),
             None => Ok(None),
         }
     }
@@ -184,11 +189,13 @@ impl Rising {
         alloc: Global,
         image: &Image,
         m: &Method,
+        facts: &Facts,
         at: u32,
         steps: &mut Steps<L>,
     ) -> Result<(), NoMemory>
         requires tree { IsTree (superclasses image.now) }
         requires fine { IsMethod image.now m.now }
+        requires known { IsKnown image.now m.now facts.now }
         requires marked { IsMarked self.old }
         requires going { IsGoing image.now m.now self.old.frames (self.old.todo ++ at ∷ []) }
         ensures marked { OnOk result (IsMarked self.new) }
@@ -196,7 +203,7 @@ impl Rising {
         ensures falls { OnOk result ((w : ℕ → ℕ) → potential image.now m.now w self.new.frames self.new.todo ≤ potential image.now m.now w self.old.frames self.old.todo) }
         ensures cost { steps.new ≤ steps.old + length (edges image.now m.now at) }
     {
-        let Some(mut visit) = self.visit_of(alloc, image, m, at)? else {
+        let Some(mut visit) = self.visit_of(alloc, image, m, facts, at)? else {
             return Ok(());
         };
         for k in 0..visit.edges.len() {

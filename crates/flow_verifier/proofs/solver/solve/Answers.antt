@@ -1,4 +1,4 @@
-use Rattle.std.proofs.Common.{◌≡◌, sym, subst, ℕ, ◌≤◌, List, [], ◌∷◌, ◌++◌, Option, arith}
+use Rattle.std.proofs.Common.{sym, subst, ℕ, ◌≤◌, List, [], ◌∷◌, ◌++◌, Option, arith}
 use Rattle.flow_types.specs.declared.flow_frame.FlowFrame.{FlowFrame}
 use Rattle.flow_verifier.specs.Typing.{IsLeast, most_steps}
 use Rattle.flow_verifier.specs.Going.{IsGoing}

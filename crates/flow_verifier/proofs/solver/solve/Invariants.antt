@@ -1,4 +1,4 @@
-use Rattle.std.proofs.Common.{◌≡◌, length, ◌+◌, ◌≤◌}
+use Rattle.std.proofs.Common.{◌+◌, ◌≤◌}
 use Rattle.flow_verifier.specs.Typing.{most_steps}
 use Rattle.flow_verifier.specs.Going.{IsMarked, IsGoing}
 use Rattle.flow_verifier.specs.Potential.{steps_left, turns_left}

@@ -1,4 +1,4 @@
-use Rattle.std.proofs.Common.{◌≡◌, ◌∙◌, sym, ap, refl, ℕ, List, [], ◌∷◌, ◌++◌, length, Some, None, false}
+use Rattle.std.proofs.Common.{◌∙◌, sym, ap, refl, ℕ, List, [], ◌∷◌, ◌++◌, length, Some, None, false}
 use Rattle.std.proofs.Math.ListN.{length-replicate}
 use Rattle.flow_verifier.proofs.Worklist.{none-flagged, set-length}
 use Rattle.flow_verifier.proofs.rising.Rising.start.Goals as goal

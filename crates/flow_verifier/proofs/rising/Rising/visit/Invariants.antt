@@ -1,4 +1,4 @@
-use Rattle.std.proofs.Common.{◌≡◌, length, ℕ, ◌+◌, ◌≤◌}
+use Rattle.std.proofs.Common.{◌≡◌, ℕ, ◌+◌, ◌≤◌}
 use Rattle.flow_verifier.specs.Going.{IsVisiting}
 use Rattle.flow_verifier.specs.Potential.{potential}
 use Rattle.flow_verifier.proofs.rising.Rising.visit.Given as goal

@@ -1,6 +1,6 @@
 use Rattle.std.proofs.Common.{refl}
 use Rattle.flow_verifier.proofs.Verdict.{typing, refused}
-use Rattle.flow_verifier.proofs.verifying.verify_ready.Goals as goal
+use Rattle.flow_verifier.proofs.verifying.judge.Goals as goal
 
 pub returns-in-Ok-Some-clause-verdict : goal.returns-in-Ok-Some-clause-verdict
 returns-in-Ok-Some-clause-verdict g c =

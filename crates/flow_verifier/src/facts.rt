@@ -1,0 +1,84 @@
+//! What is known of each place of a method before frames flow.
+
+ghost use Rattle.std.specs.Prelude.{◌≡◌, ◌<◌, ◌||◌, ℕ, length, map, slice_get, IfOk, Some};
+ghost use Rattle.std.specs.List.{list_any};
+ghost use Rattle.flow_verifier.specs.Methods.{ops_of, IsMethod};
+ghost use Rattle.flow_verifier.specs.Given.{row_at, is_bad_at};
+ghost use Rattle.flow_verifier.specs.Going.{flag_at, IsKnown};
+
+use crate::method::{Handler, Method, ops_of};
+use crate::rising::no_flags;
+use code_table::Placed;
+use flow_types::is_sub;
+use instruction_table::{Row, THROWABLE, row_of};
+use jvm_base::{List, NoMemory};
+use program_image::Image;
+use std::alloc::Global;
+
+/// The row of each instruction, and for each place whether a handler there catches a class that
+/// isn't thrown. They are found once, so that a visit searches neither handlers nor names.
+#[derive(Drop)]
+pub(crate) struct Facts {
+    pub rows: List<Row>,
+    pub bad: List<bool>,
+}
+
+/// The row of each instruction.
+fn rows(alloc: Global, image: &Image, m: &Method) -> Result<List<Row>, NoMemory>
+    requires within { m.now.number < length image.now.methods }
+    ensures { IfOk result (λ rows. rows ≡ map (row_at image.now m.now) (ops_of image.now m.now.number)) }
+{
+    let ops = ops_of(image, m.number);
+    let mut rows = List::new(alloc);
+    for i in 0..ops.len() {
+        rows.push(row_of(alloc, image, m.number, ops[i].at, &ops[i].op)?)?;
+    }
+    Ok(rows)
+}
+
+/// Flags the place of a handler that catches a class which isn't thrown.
+fn flag(image: &Image, bad: &mut List<bool>, handler: &Handler)
+    requires there { handler.now.to < length bad.old }
+    ensures long { length bad.new ≡ length bad.old }
+    ensures flags { (i : ℕ) → flag_at bad.new i ≡ (flag_at bad.old i || is_bad_at image.now i handler.now) }
+{
+    if !is_sub(image, handler.class, THROWABLE) {
+        bad.set(handler.to as usize, true);
+    }
+}
+
+/// For each place whether a handler there catches a class that isn't thrown.
+fn bad_places(alloc: Global, image: &Image, m: &Method) -> Result<List<bool>, NoMemory>
+    requires fine { IsMethod image.now m.now }
+    ensures { IfOk result (λ bad. (i : ℕ) → flag_at bad i ≡ list_any (is_bad_at image.now i) m.now.handlers) }
+{
+    let mut bad = no_flags(alloc, ops_of(image, m.number).len())?;
+    let handlers = m.handlers.as_slice();
+    for k in 0..handlers.len() {
+        flag(image, &mut bad, &handlers[k]);
+    }
+    Ok(bad)
+}
+
+impl Facts {
+    /// What is known of a method's places.
+    pub fn new(alloc: Global, image: &Image, m: &Method) -> Result<Facts, NoMemory>
+        requires fine { IsMethod image.now m.now }
+        ensures { IfOk result (λ facts. IsKnown image.now m.now facts) }
+    {
+        Ok(Facts {
+            rows: rows(alloc, image, m)?,
+            bad: bad_places(alloc, image, m)?,
+        })
+    }
+
+    /// Whether a handler at a place catches a class that isn't thrown.
+    pub fn is_bad(&self, i: usize) -> bool
+        ensures { result ≡ flag_at self.now.bad i }
+    {
+        match self.bad.get(i) {
+            Some(flag) => *flag,
+            None => false,
+        }
+    }
+}
