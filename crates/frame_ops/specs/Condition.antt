@@ -1,8 +1,8 @@
 -- When a frame can take a step: what its instruction asks of operands, locals and room.
-use Rattle.std.specs.Prelude.{ℕ, ◌≤◌, List, length}
+use Rattle.std.specs.Prelude.{◌≤◌, List, length}
 use Rattle.jvm_base.specs.Stack.{Stack}
 use Rattle.jvm_base.specs.declared.value.Value.{Value}
-use Rattle.frame_ops.specs.Moves.{Move, Goes, Jumps, Sets, Raises, Throws, Asks, Calls, Leaves, Stuck}
+use Rattle.frame_ops.specs.Moves.{Move, Goes, Jumps, Sets, Stuck}
 
 -- the operands are there and of the kinds that are asked
 abbrev pub IsDefined : Move → Type 0

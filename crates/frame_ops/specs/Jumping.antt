@@ -1,6 +1,7 @@
 -- Where a move leads, and what it leaves in the locals.
-use Rattle.std.specs.Prelude.{ℕ, List, Option, Some, None}
+use Rattle.std.specs.Prelude.{ℕ, List}
 use Rattle.jvm_base.specs.declared.value.Value.{Value}
+use Rattle.frame_ops.specs.declared.answer.Pure.{Pure}
 use Rattle.frame_ops.specs.declared.answer.Pure.TheVariants as pure
 use Rattle.frame_ops.specs.declared.moved.Moved.{Moved}
 use Rattle.frame_ops.specs.declared.moved.Moved.TheVariants.{Behind, At, Elsewhere}
@@ -22,6 +23,17 @@ moved_of Asks = Elsewhere pure.Heap
 moved_of Calls = Elsewhere pure.Call
 moved_of (Leaves v) = Elsewhere (pure.Leave v)
 moved_of Stuck = Behind
+
+-- what the step answers then
+abbrev pub answer_of : Moved → Pure
+answer_of (Elsewhere answer) = answer
+answer_of _ = pure.Next
+
+-- and where the frame is, whose next instruction stands at an address
+abbrev pub address_after : Moved → ℕ → ℕ → ℕ
+address_after Behind next at = next
+address_after (At to) next at = to
+address_after (Elsewhere answer) next at = at
 
 -- it sets no local
 abbrev pub KeepsLocals : Move → Type 0

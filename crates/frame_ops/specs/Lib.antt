@@ -7,3 +7,4 @@ pub mod Condition
 pub mod Jumping
 pub mod Shuffles
 pub mod Stepping
+pub mod Running

@@ -1,5 +1,6 @@
 -- A frame's step at its instruction: by itself, or once what it asked for is answered.
-use Rattle.std.specs.Prelude.{ℕ, ◌+◌, ◌==◌, if◌then◌else◌, List, length, reverse, take, find, Option}
+use Rattle.std.specs.Prelude.{◌≡◌, ℕ, ◌+◌, ◌==◌, ◌<◌, ◌≤◌, if◌then◌else◌, List, length, reverse, take, find, Option, Some}
+use Rattle.std.specs.List.{AllPairs}
 use Rattle.jvm_base.specs.Tops.{frame_answered}
 use Rattle.jvm_base.specs.Words.{from}
 use Rattle.jvm_base.specs.declared.desc.MethodDesc.{MethodDesc}
@@ -13,6 +14,7 @@ use Rattle.code_table.specs.declared.opcode.TheConstants as code
 use Rattle.frame_ops.specs.declared.answer.Given.{Given}
 use Rattle.frame_ops.specs.declared.answer.Pure.{Pure}
 use Rattle.frame_ops.specs.declared.answer.Pure.TheVariants as pure
+use Rattle.frame_ops.specs.Condition.{CanMove}
 use Rattle.frame_ops.specs.Moves.{Move, frame_after, pure_answer}
 use Rattle.frame_ops.specs.Table.{move_of}
 
@@ -20,11 +22,33 @@ use Rattle.frame_ops.specs.Table.{move_of}
 abbrev pub placed_in : Code → ℕ → Option Placed
 placed_in code at = find (λ i. i.at == at) code.ops
 
+-- ---- what decoding owes
+
+-- addresses rise from one instruction to the next
+abbrev pub IsRising : List Placed → Type 0
+IsRising ops = AllPairs (λ p q. p.at < q.at) ops
+
+-- a method takes at most 255 arguments (JVMS2 4.10)
+abbrev pub HasFewArguments : Op → Type 0
+HasFewArguments (op.Invoke o i d) = length d.args ≤ 255
+HasFewArguments _ = Unit {0}
+
 -- ---- by itself
 
 -- what the frame's instruction comes to
 abbrev pub move_at : Placed → Given → Frame → Move
 move_at i given f = move_of i.op given f.locals f.stack.values
+
+-- the frame has what its instruction takes, and room for what it puts
+pub record CanRun (i : Placed) (given : Given) (f : Frame) : Type 0 where
+  pub few : HasFewArguments i.op
+  pub moves : CanMove (move_at i given f) f.stack
+
+-- a frame with this code is at such an instruction
+pub record CanStep (code : Code) (given : Given) (f : Frame) : Type 0 where
+  pub placed : Placed
+  pub here : placed_in code f.at ≡ Some placed
+  pub runs : CanRun placed given f
 
 -- what the step of a frame with this code answers
 abbrev pub step_answer : Code → Given → Frame → Pure
@@ -64,3 +88,15 @@ placed_answered i answer f = frame_answered i.next (operand_count i.op) answer f
 -- the same of a frame with this code
 abbrev pub completed : Code → Option Value → Frame → Frame
 completed code answer f = from f (λ i. placed_answered i answer f) (placed_in code f.at)
+
+-- the frame has what its instruction takes, and room for the answer
+pub record CanTake (i : Placed) (answer : Option Value) (f : Frame) : Type 0 where
+  pub few : HasFewArguments i.op
+  pub enough : operand_count i.op ≤ length f.stack.values
+  pub room : length (placed_answered i answer f).stack.values ≤ f.stack.room
+
+-- a frame with this code is at such an instruction
+pub record CanComplete (code : Code) (answer : Option Value) (f : Frame) : Type 0 where
+  pub placed : Placed
+  pub here : placed_in code f.at ≡ Some placed
+  pub takes : CanTake placed answer f

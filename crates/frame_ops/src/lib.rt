@@ -3,11 +3,15 @@
 
 mod answer;
 mod asks;
+mod families;
 mod jumps;
 mod locals;
 mod moved;
 mod numbers;
 mod operands;
+mod rows;
 mod shuffles;
+mod step;
 
 pub use answer::{Fault, Given, Pure};
+pub use step::{complete, complete_at, placed_at, pure_step, step_at};

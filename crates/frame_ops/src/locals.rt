@@ -2,10 +2,11 @@
 
 ghost use Rattle.std.specs.Prelude.{◌≡◌, ◌∷◌, ◌+◌, slice_get, slice_set};
 ghost use Rattle.jvm_base.specs.Stack.{pushed};
-ghost use Rattle.frame_ops.specs.Condition.{CanMove, IsDefined, stack_after};
-ghost use Rattle.frame_ops.specs.Jumping.{locals_after};
+ghost use Rattle.frame_ops.specs.Condition.{CanMove, IsDefined, stack_after, values_after};
+ghost use Rattle.frame_ops.specs.Jumping.{moved_of, locals_after};
 ghost use Rattle.frame_ops.specs.Operands.{local_at, stores, bumps, local_slots};
 
+use crate::moved::Moved;
 use jvm_base::{List, Operands, Value};
 
 /// The value of a local.
@@ -28,8 +29,9 @@ fn set_local(locals: &mut List<Value>, at: usize, value: Value)
 }
 
 /// Puts an operand into a local, a long into two.
-pub(crate) fn store(local: u16, locals: &mut List<Value>, stack: &mut Operands)
+pub(crate) fn store(local: u16, locals: &mut List<Value>, stack: &mut Operands) -> Moved
     requires { CanMove (stores local stack.old.values) stack.old }
+    ensures moved { result ≡ moved_of (stores local stack.old.values) }
     ensures locals { locals.new ≡ locals_after (stores local stack.old.values) locals.old }
     ensures stack { stack.new ≡ stack_after (stores local stack.old.values) stack.old }
 {
@@ -41,12 +43,17 @@ pub(crate) fn store(local: u16, locals: &mut List<Value>, stack: &mut Operands)
         Some(value) => set_local(locals, local as usize, value),
         None => unreachable!(),
     }
+    Moved::Behind
 }
 
 /// Lets an int in a local grow.
-pub(crate) fn bump(local: u16, by: i16, locals: &mut List<Value>, stack: &Operands)
+pub(crate) fn bump(local: u16, by: i16, locals: &mut List<Value>, stack: &Operands) -> Moved
     requires { IsDefined (bumps local by locals.old stack.now.values) }
-    ensures { locals.new ≡ locals_after (bumps local by locals.old stack.now.values) locals.old }
+    ensures moved { result ≡ moved_of (bumps local by locals.old stack.now.values) }
+    ensures locals { locals.new
+        ≡ locals_after (bumps local by locals.old stack.now.values) locals.old }
+    ensures values { values_after (bumps local by locals.old stack.now.values) stack.now.values
+        ≡ stack.now.values }
 {
     match local_at(locals, local) {
         Value::Int(a) => set_local(
@@ -56,4 +63,5 @@ pub(crate) fn bump(local: u16, by: i16, locals: &mut List<Value>, stack: &Operan
         ),
         _ => unreachable!(),
     }
+    Moved::Behind
 }

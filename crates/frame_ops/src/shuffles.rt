@@ -6,11 +6,13 @@ ghost use Rattle.instruction_table.specs.Rows.{pop_row, dup_row};
 ghost use Rattle.instruction_table.specs.Working.{group_count, swapped};
 ghost use Rattle.instruction_table.specs.declared.row.Group.{Group};
 ghost use Rattle.instruction_table.specs.declared.row.Row.TheVariants as row;
+ghost use Rattle.frame_ops.specs.declared.moved.Moved.TheVariants.{Behind};
 ghost use Rattle.frame_ops.specs.Condition.{CanMove, stack_after};
 ghost use Rattle.frame_ops.specs.Moves.{Goes};
 ghost use Rattle.frame_ops.specs.Operands.{is_wide, shuffled, under};
 ghost use Rattle.frame_ops.specs.Shuffles.{few_values, put_values};
 
+use crate::moved::Moved;
 use code_table::opcode;
 use instruction_table::Group;
 use jvm_base::{Operands, Value};
@@ -68,11 +70,13 @@ fn pop_group(op: u8) -> Group
 }
 
 /// Takes a group off.
-pub(crate) fn pop(op: u8, stack: &mut Operands)
-    ensures { stack.new ≡ stack_after (Goes (shuffled (pop_row op) stack.old.values)) stack.old }
+pub(crate) fn pop(op: u8, stack: &mut Operands) -> Moved
+    ensures moved { result ≡ Behind }
+    ensures stack { stack.new ≡ stack_after (Goes (shuffled (pop_row op) stack.old.values)) stack.old }
 {
     let group = pop_group(op);
     let _ = take_group(group, stack);
+    Moved::Behind
 }
 
 fn dup_groups(op: u8) -> (Group, Group)
@@ -101,18 +105,21 @@ fn double(top: Group, below: Group, stack: &mut Operands)
 }
 
 /// Doubles a group by the opcode.
-pub(crate) fn dup(op: u8, stack: &mut Operands)
+pub(crate) fn dup(op: u8, stack: &mut Operands) -> Moved
     requires { CanMove (Goes (shuffled (dup_row op) stack.old.values)) stack.old }
-    ensures { stack.new ≡ stack_after (Goes (shuffled (dup_row op) stack.old.values)) stack.old }
+    ensures moved { result ≡ Behind }
+    ensures stack { stack.new ≡ stack_after (Goes (shuffled (dup_row op) stack.old.values)) stack.old }
 {
     let (top, below) = dup_groups(op);
     double(top, below, stack);
+    Moved::Behind
 }
 
 /// Turns two values.
-pub(crate) fn swap(stack: &mut Operands)
+pub(crate) fn swap(stack: &mut Operands) -> Moved
     requires { CanMove (Goes (shuffled row.Swaps stack.old.values)) stack.old }
-    ensures { stack.new ≡ stack_after (Goes (shuffled row.Swaps stack.old.values)) stack.old }
+    ensures moved { result ≡ Behind }
+    ensures stack { stack.new ≡ stack_after (Goes (shuffled row.Swaps stack.old.values)) stack.old }
 {
     let first = stack.pop();
     let second = stack.pop();
@@ -122,4 +129,5 @@ pub(crate) fn swap(stack: &mut Operands)
     if let Some(value) = second {
         stack.push(value);
     }
+    Moved::Behind
 }
