@@ -8,4 +8,6 @@ pub mod TreeLaws
 pub mod LevelLaws
 pub mod SuperLaws
 pub mod FilledLaws
+pub mod RankLaws
 pub mod Verifiable
+pub mod OneRejection

@@ -35,6 +35,7 @@ use Rattle.acceptance.proofs.Typed.{IsTyped}
 use Rattle.flow_types.specs.Tree.{superclasses, IsTree}
 use Rattle.acceptance.proofs.SuperLaws.{boot_count, no_super, has_super}
 use Rattle.acceptance.proofs.TreeLaws.{is_tree}
+use Rattle.acceptance.proofs.RankLaws.{has_ranks}
 
 module _ (files : List ClassFile) (main : List ℕ) (are : AreLinked files main) where
   -- all classes have filled code
@@ -83,7 +84,7 @@ module _ (files : List ClassFile) (main : List ℕ) (are : AreLinked files main)
   -- the classes form one tree
   pub one_tree : IsTree (superclasses (linked files main))
   one_tree =
-      is_tree (boot_files ++ files) (array_types files) (literals files) (start_of files main) are.ranked.0 (ranked_by Super (boot_files ++ files) are.ranked.0 are.ranked.1) (let m = many in omega arith)
+      is_tree (boot_files ++ files) (array_types files) (literals files) (start_of files main) (has_ranks files main are.none).0 (ranked_by Super (boot_files ++ files) (has_ranks files main are.none).0 (has_ranks files main are.none).1) (let m = many in omega arith)
       (no_super files main are.none) (has_super files main are.none)
 
 -- linking owes both

@@ -3,18 +3,15 @@ use Rattle.std.specs.Prelude.{◌≡◌, ℕ, List, []}
 use Rattle.std.specs.List.{All}
 use Rattle.class_format.specs.declared.class.ClassFile.{ClassFile}
 use Rattle.class_format.specs.Meaning.{IsClass}
-use Rattle.link_rules.specs.Numbers.{above_rows}
-use Rattle.link_uses.specs.Tables.{HasRanks}
 use Rattle.class_link.specs.Linked.{linked}
-use Rattle.class_link.specs.Refusals.{classes_of, link_refusals}
+use Rattle.class_link.specs.Refusals.{link_refusals}
 use Rattle.flow_types.specs.Tree.{superclasses, IsTree}
 use Rattle.acceptance.specs.Accepted.{AreVerifiable}
 
--- linking refuses nothing of these class files with that main class, and no class lies above itself
+-- linking refuses nothing of these class files with that main class
 pub record AreLinked (files : List ClassFile) (main : List ℕ) : Type 0 where
   pub formed : All IsClass files
   pub none : link_refusals files main ≡ []
-  pub ranked : HasRanks (above_rows (classes_of files))
 
 -- the classes of a linked program form one tree, and its methods with code may be verified
 abbrev pub LinkedLaw : Type 0

@@ -1,33 +1,41 @@
 -- From the files of a call to its verdict.
-use Rattle.std.proofs.Common.{◌≡◌, ℕ, List, [], Option, Some, None, Ok, Err, refl, sym, subst, inl, inr, ⊎_elim}
+use Rattle.std.proofs.Common.{◌≡◌, ℕ, List, [], Option, Some, None, Ok, Err, refl, sym, subst, inl, inr, ⊎_elim, ◌⊎◌}
+use Rattle.std.specs.Prelude.{◌≢◌}
+use Rattle.std.specs.Io.KnownBytes.{Appends}
+use Rattle.cjvm_io.specs.Faults.{Rose}
 use Rattle.cjvm_io.specs.Shelves.{Files}
-use Rattle.cjvm_io.specs.Sinks.{Showing}
+use Rattle.cjvm_io.specs.Sinks.{Showing, GainsFront}
 use Rattle.thin_file.specs.declared.thin.ThinCode.{ThinCode}
 use Rattle.one_machine.specs.declared.state.Choice.{Choice}
 use Rattle.one_jvm.specs.declared.outcome.Stop.{Stop}
 use Rattle.one_jvm.specs.declared.outcome.Stop.TheVariants as stop
 use Rattle.one_jvm.specs.declared.outcome.Refusal.{Refusal}
-use Rattle.one_jvm.specs.declared.outcome.Refusal.TheVariants.{Usage, File, Link, NoFile, ReadFault, WriteFault, TooLong, NotYet, NoMemory}
-use Rattle.one_jvm.specs.Words.{Asked, IsRun}
+use Rattle.one_jvm.specs.declared.outcome.Refusal.TheVariants.{Usage, File, Link, Flow, NoFile, ReadFault, WriteFault, TooLong, NotYet, NoMemory}
+use Rattle.one_jvm.specs.declared.loading.Task.{Task}
+use Rattle.one_jvm.specs.declared.loading.Task.TheVariants.{Run, Tell}
+use Rattle.one_jvm.specs.declared.words.Command.TheVariants as command
+use Rattle.one_jvm.specs.Words.{Asked, IsCall, IsCheck}
 use Rattle.one_jvm.specs.Verdicts.{Names, StopsAt, IsThinProgram, IsVerdict}
-use Rattle.one_jvm.specs.Answers.{Faults, IsAny, IsHindered, Because, Agrees, refusal_of, IsLinkText, IsSubject}
-use Rattle.one_jvm.specs.Steps.Loading.{AreFound, RefusesProgram, LoadFails, HasText, HasNoProgram, Programs}
+use Rattle.one_jvm.specs.Answers.{Faults, IsAny, IsHindered, Because, Agrees, Wrote, Says, Ran, Accepts, IsAccepted, IsUnwritten, refusal_of, IsToldText, IsSubject, IsClosed}
+use Rattle.one_jvm.specs.Steps.Loading.{AreFound, RefusesProgram, LoadFails, HasText, HasNoProgram, IsTaskOf, Programs}
 use Rattle.one_jvm.specs.Steps.Speaking.{IsToldOf, Speaks}
 use Rattle.one_jvm.specs.declared.loading.Refused.{Refused}
 use Rattle.one_jvm.specs.Runs.{RanTo}
+use Rattle.one_jvm.proofs.WordLemmas.{no_check}
 
-module _ (words : List (List ℕ)) (told : Option Files) (a : Asked) (run : IsRun words a) where
+module _ (words : List (List ℕ)) (told : Option Files) (a : Asked) (call : IsCall words a) where
   -- what there is under the words' names
-  names : (P : Option (List ℕ) → List (Option (List ℕ)) → Type 0) → AreFound told a.files (P a.main) → Names told words P
-  names P f = record { asked = a; is_run = run; contents = f.contents; under = f.under; such = f.such }
+  names : (P : Asked → List (Option (List ℕ)) → Type 0) → AreFound told a.files (P a) → Names told words P
+  names P f = record { asked = a; is_call = call; contents = f.contents; under = f.under; such = f.such }
 
   -- the verdict on files that are refused
-  verdict : (e : Refusal) → AreFound told a.files (RefusesProgram a.main e) → IsVerdict told words (Some e)
+  verdict : (e : Refusal) → AreFound told a.files (RefusesProgram e a) → IsVerdict told words (Some e)
   verdict (NoFile k) f = names _ f
   verdict (TooLong k) f = names _ f
   verdict (File k why) f = names _ f
   verdict NotYet f = names _ f
   verdict (Link e) f = names _ f
+  verdict (Flow e) f = names _ f
   verdict Usage f = absurd f.such
   verdict (ReadFault k) f = absurd f.such
   verdict WriteFault f = absurd f.such
@@ -35,10 +43,11 @@ module _ (words : List (List ℕ)) (told : Option Files) (a : Asked) (run : IsRu
 
   -- reading failed
   fails : (faults : Faults) (e : Refusal) → LoadFails told a.files faults.read_before faults.read_now e → IsHindered told words faults (Some e)
-  fails faults (ReadFault k) h = record { is_run = (a, run); hindrance = ReadFault k; strikes = record { rose = h.0; stops = names (λ main. StopsAt IsAny k) h.1 }; shows = refl }
-  fails faults NoMemory h = record { is_run = (a, run); hindrance = NoMemory; strikes = tt; shows = refl }
+  fails faults (ReadFault k) h = record { is_call = (a, call); hindrance = ReadFault k; strikes = record { rose = h.0; stops = names (λ asked. StopsAt IsAny k) h.1 }; shows = refl }
+  fails faults NoMemory h = record { is_call = (a, call); hindrance = NoMemory; strikes = tt; shows = refl }
   fails faults Usage h = absurd h
   fails faults (Link e) h = absurd h
+  fails faults (Flow e) h = absurd h
   fails faults (File k why) h = absurd h
   fails faults (NoFile k) h = absurd h
   fails faults (TooLong k) h = absurd h
@@ -50,8 +59,9 @@ module _ (words : List (List ℕ)) (told : Option Files) (a : Asked) (run : IsRu
   because_refused faults r p = ⊎_elim (λ f. inl (verdict r.refusal f)) (λ f. inr (fails faults r.refusal f)) p.cause
 
   -- what is told of them
-  tells : (e : Refusal) (text : List ℕ) → HasText told a.files e text → IsToldOf told words (Some e) text
-  tells (Link e) text f = names (λ main. IsLinkText e text) f
+  tells : (e : Refusal) (text : List ℕ) → HasText told a e text → IsToldOf told words (Some e) text
+  tells (Link e) text f = names (IsToldText (Link e) text) f
+  tells (Flow e) text f = names (IsToldText (Flow e) text) f
   tells NotYet text f = tt
   tells NoMemory text f = tt
   tells Usage text f = tt
@@ -65,27 +75,60 @@ module _ (words : List (List ℕ)) (told : Option Files) (a : Asked) (run : IsRu
   pub told_refused : (f g : ℕ) (r : Refused) → Programs told a f g (Err r) → IsToldOf told words (Some r.refusal) r.text.items
   told_refused f g r p = tells r.refusal r.text.items p.tells
 
-  -- the words' files have the program
-  pub has_program : (f g : ℕ) (code : ThinCode) → Programs told a f g (Ok code) → Names told words (IsThinProgram code)
-  has_program f g code h = names (IsThinProgram code) h
-
-  -- a program that ran
-  pub because_ran : (faults : Faults) (code : ThinCode) (order : List Choice) (before now : Showing) (s : Stop)
-      → Programs told a faults.read_before faults.read_now (Ok code) → before.faults ≡ faults.wrote_before → now.faults ≡ faults.wrote_now
-      → RanTo code order before now s → Because words told faults (refusal_of s)
-  because_ran faults code order before now stop.Done h b n r = inl (code, names (IsThinProgram code) h)
-  because_ran faults code order before now stop.WriteFault h b n r = inr (record { is_run = (a, run); hindrance = WriteFault; strikes = rw (b, n) at r.1; shows = refl })
-  because_ran faults code order before now stop.NoMemory h b n r = inr (record { is_run = (a, run); hindrance = NoMemory; strikes = tt; shows = refl })
-
   -- files aren't refused for a write
   no_write : (f g : ℕ) (text : List ℕ) → HasNoProgram told a f g WriteFault text → ⊥
   no_write f g text p = ⊎_elim (λ x. x.such) (λ x. x) p.cause
 
-  -- a refusal of files agrees with no run
-  pub agrees_refused : (f g : ℕ) (r : Refused) → Programs told a f g (Err r) → Agrees None (Some r.refusal)
-  agrees_refused f g r h = (λ p. cc, λ p. let q : r.refusal ≡ WriteFault = cc in no_write f g r.text.items (subst (λ (x : Refusal). HasNoProgram told a f g x r.text.items) q h))
+  -- so their refusal is none for a write
+  pub refused_apart : (f g : ℕ) (r : Refused) → Programs told a f g (Err r) → (Some r.refusal ≢ None) × (Some r.refusal ≢ Some WriteFault)
+  refused_apart f g r h = (λ p. cc, λ p. let q : r.refusal ≡ WriteFault = cc in no_write f g r.text.items (subst (λ (x : Refusal). HasNoProgram told a f g x r.text.items) q h))
 
--- a run tells nothing of linking
+  -- ---- files whose program is run
+
+  module _ (faults : Faults) (code : ThinCode) (h : AreFound told a.files (IsThinProgram code a)) (before now : Showing)
+      (b : before.faults ≡ faults.wrote_before) (n : now.faults ≡ faults.wrote_now) where
+    -- the words' files have the program
+    pub has_program : Names told words (IsThinProgram code)
+    has_program = names (IsThinProgram code) h
+
+    because_ran : (s : Stop) (order : List Choice) → RanTo code order before now s → Because words told faults (refusal_of s)
+    because_ran stop.Done order r = inl (inl (code, has_program))
+    because_ran stop.WriteFault order r = inr (record { is_call = (a, call); hindrance = WriteFault; strikes = rw (b, n) at r.1; shows = refl })
+    because_ran stop.NoMemory order r = inr (record { is_call = (a, call); hindrance = NoMemory; strikes = tt; shows = refl })
+
+    -- no check runs a program
+    pub agrees_ran : (s : Stop) (refusal : Option Refusal) → refusal ≡ refusal_of s → Agrees words (Some s) refusal
+    agrees_ran s refusal e = (no_check words a call h.such.run, e)
+
+  -- ---- files that are checked
+
+  module _ (faults : Faults) (line : List ℕ) (h : AreFound told a.files (IsAccepted line a)) (before now : Showing)
+      (b : before.faults ≡ faults.wrote_before) (n : now.faults ≡ faults.wrote_now) where
+    -- the words ask for a check
+    pub is_check : IsCheck words
+    is_check = (a, call, h.such.checked.check)
+
+    -- the words' files are accepted
+    said : (G : List ℕ → Type 0) → G line → Accepts told words G
+    said G g = record { text = line; files = names (IsAccepted line) h; gained = g }
+
+    -- the verdict on them, or a fault of standard output
+    pub because_said : (refusal : Option Refusal) → Says line before now refusal → Because words told faults refusal
+    because_said None s = inl (inr (record { asked = a; is_call = call; contents = h.contents; under = h.under; such = h.such.checked }))
+    because_said (Some e) s =
+        inr (record { is_call = (a, call); hindrance = WriteFault; strikes = rw (b, n) at s.1.0; shows = subst (λ (x : Refusal). Some x ≡ Some WriteFault) (sym s.0) refl })
+
+    -- what standard output gained
+    pub wrote_said : (refusal : Option Refusal) → Says line before now refusal → Wrote words told before now refusal
+    wrote_said None s = said (λ l. Says l before now None) s
+    wrote_said (Some e) s = inr (said (λ l. Says l before now (Some e)) s)
+
+-- nothing is told where standard output alone failed
+pub told_said : (told : Option Files) (words : List (List ℕ)) (line : List ℕ) (before now : Showing) (refusal : Option Refusal) (text : List ℕ) → Says line before now refusal → IsToldOf told words refusal text
+told_said told words line before now None text s = tt
+told_said told words line before now (Some e) text s = subst (λ (x : Refusal). IsToldOf told words (Some x) text) (sym s.0) tt
+
+-- nor by a run
 pub told_ran : (told : Option Files) (words : List (List ℕ)) (s : Stop) (text : List ℕ) → IsToldOf told words (refusal_of s) text
 told_ran told words stop.Done text = tt
 told_ran told words stop.WriteFault text = tt
@@ -94,8 +137,8 @@ told_ran told words stop.NoMemory text = tt
 -- what the report of a refusal speaks of
 pub subject : (told : Option Files) (words : List (List ℕ)) (v : Option Refusal) (text s : List ℕ) → IsToldOf told words v text → Speaks words v text s → IsSubject told words v s
 subject told words None text s t h = tt
-subject told words (Some (Link e)) text s t h =
-    subst (λ (x : List ℕ). Names told words (λ main contents. IsLinkText e x contents)) (sym h) t
+subject told words (Some (Link e)) text s t h = subst (λ (x : List ℕ). Names told words (IsToldText (Link e) x)) (sym h) t
+subject told words (Some (Flow e)) text s t h = subst (λ (x : List ℕ). Names told words (IsToldText (Flow e) x)) (sym h) t
 subject told words (Some (File k why)) text s t h = h
 subject told words (Some (NoFile k)) text s t h = h
 subject told words (Some (TooLong k)) text s t h = h
@@ -104,3 +147,27 @@ subject told words (Some Usage) text s t h = h
 subject told words (Some WriteFault) text s t h = h
 subject told words (Some NotYet) text s t h = h
 subject told words (Some NoMemory) text s t h = h
+
+-- ---- a fault of standard error
+
+-- it changes nothing of what standard output gained
+wrote_hidden : (words : List (List ℕ)) (told : Option Files) (before now : Showing) (e : Refusal) → Wrote words told before now (Some e) → Wrote words told before now (Some WriteFault)
+wrote_hidden words told before now e (inl same) = inl same
+wrote_hidden words told before now e (inr a) = inr (record { text = a.text; files = a.files; gained = (refl, a.gained.1) })
+
+-- of a refusal as it is answered
+wrote_answered : (words : List (List ℕ)) (told : Option Files) (before now : Showing) (plain refusal : Option Refusal) → (plain ≡ None → refusal ≡ None) → (refusal ≡ plain) ⊎ (refusal ≡ Some WriteFault) → Wrote words told before now plain → Wrote words told before now refusal
+wrote_answered words told before now plain refusal silent (inl e) w = subst (Wrote words told before now) (sym e) w
+wrote_answered words told before now None refusal silent (inr e) w = subst (Wrote words told before now) (sym (silent refl)) w
+wrote_answered words told before now (Some x) refusal silent (inr e) w = subst (Wrote words told before now) (sym e) (wrote_hidden words told before now x w)
+
+-- nor of the order
+pub ran_answered : (words : List (List ℕ)) (told : Option Files) (before now : Showing) (order : List Choice) (s : Option Stop) (plain refusal : Option Refusal) → (plain ≡ None → refusal ≡ None) → (refusal ≡ plain) ⊎ (refusal ≡ Some WriteFault) → Ran words told before now order s plain → Ran words told before now order s refusal
+ran_answered words told before now order None plain refusal silent h r = (r.0, wrote_answered words told before now plain refusal silent h r.1)
+ran_answered words told before now order (Some s) plain refusal silent h r = r
+
+-- where nothing was written by the refusal as it is answered, so by the plain one
+pub unwritten_answered : (words : List (List ℕ)) (s : Option Stop) (plain refusal : Option Refusal) → (plain ≡ None → refusal ≡ None) → (refusal ≡ plain) ⊎ (refusal ≡ Some WriteFault) → IsUnwritten words s refusal → IsUnwritten words s plain
+unwritten_answered words s plain refusal silent (inl e) u = subst (IsUnwritten words s) e u
+unwritten_answered words s plain refusal silent (inr e) (none, inl n) = (none, inl n)
+unwritten_answered words s plain refusal silent (inr e) (none, inr p) = absurd (p.1 e)

@@ -22,11 +22,14 @@ use Rattle.thin_file.specs.declared.thin.ThinErr.TheVariants as thin
 use Rattle.thin_file.specs.Thin.{IsThin}
 use Rattle.one_jvm.specs.declared.loading.Loaded.{Loaded}
 use Rattle.one_jvm.specs.declared.outcome.Refusal.{Refusal}
-use Rattle.one_jvm.specs.declared.outcome.Refusal.TheVariants.{Usage, File, Link, NoFile, ReadFault, WriteFault, TooLong, NotYet, NoMemory}
+use Rattle.one_jvm.specs.declared.outcome.Refusal.TheVariants.{Usage, File, Link, Flow, NoFile, ReadFault, WriteFault, TooLong, NotYet, NoMemory}
+use Rattle.one_jvm.specs.declared.words.Command.TheVariants as command
+use Rattle.one_jvm.specs.declared.loading.Task.{Task}
+use Rattle.one_jvm.specs.declared.loading.Task.TheVariants.{Run, Tell}
 use Rattle.one_jvm.specs.Words.{Asked, name_at}
-use Rattle.one_jvm.specs.Verdicts.{limit, IsMissing, IsLong, IsRefusedFile, IsClassFile, AreClassFiles, StopsAt, AreLinked, IsThinProgram, IsOtherProgram, AreUnder}
+use Rattle.one_jvm.specs.Verdicts.{limit, IsMissing, IsLong, IsRefusedFile, IsClassFile, AreClassFiles, StopsAt, AreAccepted, IsThinFile, IsThinProgram, IsOtherProgram, AreUnder}
 use Rattle.one_jvm.specs.Answers.{IsAny}
-use Rattle.one_jvm.specs.Steps.Loading.{IsUnder, IsFound, IsRead, RefusesBytes, RefusesFile, FailsAt, ReadsFile, AreFound, IsLast, AreRead, RefusesFiles, LoadFails, Loads, refusals_of, IsOneThin, IsNotThin, IsAccepted, IsOther, IsNotRun, RefusesProgram, IsTextOf, IsTold, HasText, HasNoProgram, Programs}
+use Rattle.one_jvm.specs.Steps.Loading.{IsUnder, IsFound, IsRead, RefusesBytes, RefusesFile, FailsAt, ReadsFile, AreFound, IsLast, AreRead, RefusesFiles, LoadFails, Loads, IsFine, IsOneThin, IsNotThin, IsTask, HasNoTask, IsSet, IsNotSet, IsOther, IsTaskOf, RefusesProgram, IsTextOf, IsTold, HasText, HasNoProgram, Programs}
 
 -- ---- one file
 
@@ -52,6 +55,7 @@ module _ (name : List ℕ) where
     loaded bytes_of bytes (Err NoMemory) has short h = inr tt
     loaded bytes_of bytes (Err Usage) has short h = absurd h
     loaded bytes_of bytes (Err (Link l)) has short h = absurd h
+    loaded bytes_of bytes (Err (Flow l)) has short h = absurd h
     loaded bytes_of bytes (Err NotYet) has short h = absurd h
     loaded bytes_of bytes (Err WriteFault) has short h = absurd h
     loaded bytes_of bytes (Err (NoFile k)) has short h = absurd h
@@ -167,6 +171,7 @@ refused_at told names k name classes bytes (NoFile j) at h f = stops_as told nam
 refused_at told names k name classes bytes (TooLong j) at h f = stops_as told names k j name classes bytes IsLong at h f
 refused_at told names k name classes bytes (File j why) at h f = stops_as told names k j name classes bytes (IsRefusedFile why) at h f
 refused_at told names k name classes bytes (Link l) at h f = absurd f.such
+refused_at told names k name classes bytes (Flow l) at h f = absurd f.such
 refused_at told names k name classes bytes Usage at h f = absurd f.such
 refused_at told names k name classes bytes (ReadFault j) at h f = absurd f.such
 refused_at told names k name classes bytes WriteFault at h f = absurd f.such
@@ -183,6 +188,7 @@ fails_at told names k name classes bytes before mid now (ReadFault j) at h l f =
     (rose_by before mid now l f.1, subst (λ (n : ℕ). AreFound told names (StopsAt IsAny n)) (sym f.0) (stops_at told names k name classes bytes IsAny at h (any_under told name)))
 fails_at told names k name classes bytes before mid now NoMemory at h l f = tt
 fails_at told names k name classes bytes before mid now (Link x) at h l f = absurd f
+fails_at told names k name classes bytes before mid now (Flow x) at h l f = absurd f
 fails_at told names k name classes bytes before mid now Usage at h l f = absurd f
 fails_at told names k name classes bytes before mid now (File j why) at h l f = absurd f
 fails_at told names k name classes bytes before mid now (NoFile j) at h l f = absurd f
@@ -225,28 +231,41 @@ alone [] classes bytes e r = absurd (omega arith)
 alone (x ∷ y ∷ contents) classes bytes e r = absurd (omega arith)
 alone (x ∷ []) classes bytes e r = ap (λ (z : Option (List ℕ)). z ∷ []) r.last
 
--- the classes of the files are linked
-linked : (told : Option Files) (a : Asked) (l : Loaded) (f : AreFound told a.files (AreRead l.classes l.bytes.items)) → refusals_of a l.classes ≡ [] → AreLinked a.main f.contents
-linked told a l f links = record { classes = l.classes; are = f.such.are; links = links }
+-- the classes of the files are accepted
+are_accepted : (told : Option Files) (a : Asked) (l : Loaded) (f : AreFound told a.files (AreRead l.classes l.bytes.items)) → IsFine a l.classes → AreAccepted a f.contents
+are_accepted told a l f fine = record { classes = l.classes; are = f.such.are; accepted = fine }
 
--- the files are a thin program
-thin_program : (told : Option Files) (a : Asked) (l : Loaded) (code : ThinCode) → AreFound told a.files (AreRead l.classes l.bytes.items) → IsAccepted a l code → AreFound told a.files (IsThinProgram code a.main)
-thin_program told a l code f h = record {
+-- one thin file is one by itself
+thin_alone : (told : Option Files) (a : Asked) (l : Loaded) (code : ThinCode) (f : AreFound told a.files (AreRead l.classes l.bytes.items)) → IsOneThin a l.bytes.items code → IsThinFile code f.contents
+thin_alone told a l code f h =
+    record { bytes = l.bytes.items; alone = alone f.contents l.classes l.bytes.items (AreUnder-length told a.files f.contents f.under ∙ h.one) f.such; thin = h.thin }
+
+-- the files have the task of their classes
+has_task : (told : Option Files) (a : Asked) (l : Loaded) (t : Task) → AreFound told a.files (AreRead l.classes l.bytes.items) → IsSet a l t → AreFound told a.files (IsTaskOf t a)
+has_task told a l (Run code) f h = record {
+  contents = f.contents;
+  under = f.under;
+  such = record { run = h.task.0; accepted = are_accepted told a l f h.fine; file = thin_alone told a l code f h.task.1 };
+}
+has_task told a l (Tell text) f h = record {
   contents = f.contents;
   under = f.under;
   such = record {
-    linked = linked told a l f h.links;
-    file = record { bytes = l.bytes.items; alone = alone f.contents l.classes l.bytes.items (AreUnder-length told a.files f.contents f.under ∙ h.thin.one) f.such; thin = h.thin.thin };
+    checked = record { check = h.task.0; accepted = are_accepted told a l f h.fine };
+    classes = l.classes;
+    are = f.such.are;
+    is = h.task.1;
   };
 }
 
--- they are none
-other_program : (told : Option Files) (a : Asked) (l : Loaded) → AreFound told a.files (AreRead l.classes l.bytes.items) → IsOther a l → AreFound told a.files (IsOtherProgram a.main)
+-- they are no thin file
+other_program : (told : Option Files) (a : Asked) (l : Loaded) → AreFound told a.files (AreRead l.classes l.bytes.items) → IsOther a l → AreFound told a.files (IsOtherProgram a)
 other_program told a l f o = record {
   contents = f.contents;
   under = f.under;
   such = record {
-    linked = linked told a l f o.links;
+    run = o.run;
+    accepted = are_accepted told a l f o.fine;
     other = λ code t.
         let len : length f.contents ≡ 1 = ap length t.alone in
         let one = alone f.contents l.classes l.bytes.items len f.such in
@@ -256,25 +275,27 @@ other_program told a l f o = record {
   };
 }
 
--- why the files have no program
+-- why the files have no task
 abbrev Cause : Option Files → Asked → ℕ → ℕ → Refusal → Type 0
-Cause told a before now e = AreFound told a.files (RefusesProgram a.main e) ⊎ LoadFails told a.files before now e
+Cause told a before now e = AreFound told a.files (RefusesProgram e a) ⊎ LoadFails told a.files before now e
 
--- a program that isn't run
-not_run : (told : Option Files) (a : Asked) (l : Loaded) (before now : ℕ) (e : Refusal) → AreFound told a.files (AreRead l.classes l.bytes.items) → IsNotRun a l e → Cause told a before now e
-not_run told a l before now NotYet f n = inl (other_program told a l f n)
-not_run told a l before now (Link e) f n = inl (record { contents = f.contents; under = f.under; such = record { classes = l.classes; are = f.such.are; first = n } })
-not_run told a l before now NoMemory f n = inr tt
-not_run told a l before now Usage f n = absurd n
-not_run told a l before now (File k why) f n = absurd n
-not_run told a l before now (NoFile k) f n = absurd n
-not_run told a l before now (TooLong k) f n = absurd n
-not_run told a l before now (ReadFault k) f n = absurd n
-not_run told a l before now WriteFault f n = absurd n
+-- the cause where classes have none
+not_set : (told : Option Files) (a : Asked) (l : Loaded) (before now : ℕ) (e : Refusal) → AreFound told a.files (AreRead l.classes l.bytes.items) → IsNotSet a l e → Cause told a before now e
+not_set told a l before now NotYet f n = inl (other_program told a l f n)
+not_set told a l before now (Link e) f n = inl (record { contents = f.contents; under = f.under; such = record { classes = l.classes; are = f.such.are; first = n } })
+not_set told a l before now (Flow e) f n = inl (record { contents = f.contents; under = f.under; such = record { classes = l.classes; are = f.such.are; untyped = n } })
+not_set told a l before now NoMemory f n = inr tt
+not_set told a l before now Usage f n = absurd n
+not_set told a l before now (File k why) f n = absurd n
+not_set told a l before now (NoFile k) f n = absurd n
+not_set told a l before now (TooLong k) f n = absurd n
+not_set told a l before now (ReadFault k) f n = absurd n
+not_set told a l before now WriteFault f n = absurd n
 
 -- what is told of it
-has_text : (told : Option Files) (a : Asked) (l : Loaded) (e : Refusal) (text : List ℕ) → AreFound told a.files (AreRead l.classes l.bytes.items) → IsTextOf l.classes e text → HasText told a.files e text
+has_text : (told : Option Files) (a : Asked) (l : Loaded) (e : Refusal) (text : List ℕ) → AreFound told a.files (AreRead l.classes l.bytes.items) → IsTextOf l.classes e text → HasText told a e text
 has_text told a l (Link e) text f h = record { contents = f.contents; under = f.under; such = record { classes = l.classes; are = f.such.are; is = h } }
+has_text told a l (Flow e) text f h = record { contents = f.contents; under = f.under; such = record { classes = l.classes; are = f.such.are; is = h } }
 has_text told a l NotYet text f h = tt
 has_text told a l NoMemory text f h = tt
 has_text told a l Usage text f h = tt
@@ -284,44 +305,47 @@ has_text told a l (TooLong k) text f h = tt
 has_text told a l (ReadFault k) text f h = tt
 has_text told a l WriteFault text f h = tt
 
--- want of memory is no program, and tells nothing
+-- want of memory is no task, and tells nothing
 no_memory : (told : Option Files) (a : Asked) (before now : ℕ) (text : List ℕ) → HasNoProgram told a before now NoMemory text
 no_memory told a before now text = record { cause = inr tt; tells = tt }
 
--- class files that aren't run have no program
-pub told_program : (told : Option Files) (a : Asked) (l : Loaded) (before now : ℕ) (e : Refusal) (r : Refused) → AreFound told a.files (AreRead l.classes l.bytes.items) → IsNotRun a l e → IsTold l.classes e r → Programs told a before now (Err r)
+-- class files that are refused have no task
+pub told_program : (told : Option Files) (a : Asked) (l : Loaded) (before now : ℕ) (e : Refusal) (r : Refused) → AreFound told a.files (AreRead l.classes l.bytes.items) → IsNotSet a l e → IsTold l.classes e r → Programs told a before now (Err r)
 told_program told a l before now e r f n (inl h) = record {
-  cause = subst (Cause told a before now) (sym h.0) (not_run told a l before now e f n);
-  tells = subst (λ (x : Refusal). HasText told a.files x r.text.items) (sym h.0) (has_text told a l e r.text.items f h.1);
+  cause = subst (Cause told a before now) (sym h.0) (not_set told a l before now e f n);
+  tells = subst (λ (x : Refusal). HasText told a x r.text.items) (sym h.0) (has_text told a l e r.text.items f h.1);
 }
 told_program told a l before now e r f n (inr h) =
     subst (λ (x : Refusal). HasNoProgram told a before now x r.text.items) (sym h) (no_memory told a before now r.text.items)
 
--- those that are run have one
-pub run_program : (told : Option Files) (a : Asked) (l : Loaded) (before now : ℕ) (code : ThinCode) → AreFound told a.files (AreRead l.classes l.bytes.items) → IsAccepted a l code → Programs told a before now (Ok code)
-run_program told a l before now code f h = thin_program told a l code f h
+-- those that are accepted have one
+pub set_program : (told : Option Files) (a : Asked) (l : Loaded) (before now : ℕ) (t : Task) → AreFound told a.files (AreRead l.classes l.bytes.items) → IsSet a l t → Programs told a before now (Ok t)
+set_program told a l before now t f h = has_task told a l t f h
 
--- refused files have no program
-of_files : (main : Option (List ℕ)) (e : Refusal) (contents : List (Option (List ℕ))) → RefusesFiles e contents → RefusesProgram main e contents
-of_files main (NoFile k) contents r = r
-of_files main (TooLong k) contents r = r
-of_files main (File k why) contents r = r
-of_files main NotYet contents r = absurd r
-of_files main (Link e) contents r = absurd r
-of_files main Usage contents r = absurd r
-of_files main (ReadFault k) contents r = absurd r
-of_files main WriteFault contents r = absurd r
-of_files main NoMemory contents r = absurd r
+-- refused files have none
+of_files : (a : Asked) (e : Refusal) (contents : List (Option (List ℕ))) → RefusesFiles e contents → RefusesProgram e a contents
+of_files a (NoFile k) contents r = r
+of_files a (TooLong k) contents r = r
+of_files a (File k why) contents r = r
+of_files a NotYet contents r = absurd r
+of_files a (Link e) contents r = absurd r
+of_files a (Flow e) contents r = absurd r
+of_files a Usage contents r = absurd r
+of_files a (ReadFault k) contents r = absurd r
+of_files a WriteFault contents r = absurd r
+of_files a NoMemory contents r = absurd r
 
 -- files that can't be loaded have none
 loads_cause : (told : Option Files) (a : Asked) (before now : ℕ) (e : Refusal) → Loads told a.files before now (Err e) → Cause told a before now e
-loads_cause told a before now e (inl f) = inl (record { contents = f.contents; under = f.under; such = of_files a.main e f.contents f.such })
+loads_cause told a before now e (inl f) = inl (record { contents = f.contents; under = f.under; such = of_files a e f.contents f.such })
 loads_cause told a before now e (inr f) = inr f
 
--- nothing of linking is told of them
-no_text : (told : Option Files) (a : Asked) (before now : ℕ) (e : Refusal) (text : List ℕ) → Loads told a.files before now (Err e) → HasText told a.files e text
+-- nothing of their classes is told
+no_text : (told : Option Files) (a : Asked) (before now : ℕ) (e : Refusal) (text : List ℕ) → Loads told a.files before now (Err e) → HasText told a e text
 no_text told a before now (Link e) text (inl f) = absurd f.such
 no_text told a before now (Link e) text (inr f) = absurd f
+no_text told a before now (Flow e) text (inl f) = absurd f.such
+no_text told a before now (Flow e) text (inr f) = absurd f
 no_text told a before now NotYet text h = tt
 no_text told a before now NoMemory text h = tt
 no_text told a before now Usage text h = tt
@@ -335,13 +359,13 @@ no_text told a before now WriteFault text h = tt
 pub not_loaded : (told : Option Files) (a : Asked) (before now : ℕ) (e : Refusal) (r : Refused) → r.refusal ≡ e → Loads told a.files before now (Err e) → Programs told a before now (Err r)
 not_loaded told a before now e r is h = record {
   cause = subst (Cause told a before now) (sym is) (loads_cause told a before now e h);
-  tells = subst (λ (x : Refusal). HasText told a.files x r.text.items) (sym is) (no_text told a before now e r.text.items h);
+  tells = subst (λ (x : Refusal). HasText told a x r.text.items) (sym is) (no_text told a before now e r.text.items h);
 }
 
--- ---- what linking is given
+-- ---- what accepting is given
 
 -- classes that were read are class files
-are_classes : (contents : List (Option (List ℕ))) (classes : List ClassFile) → AreClassFiles contents classes → AllByRecursion IsClass classes
+pub are_classes : (contents : List (Option (List ℕ))) (classes : List ClassFile) → AreClassFiles contents classes → AllByRecursion IsClass classes
 are_classes [] [] a = tt
 are_classes [] (c ∷ classes) a = absurd a
 are_classes (x ∷ contents) [] a = absurd a
@@ -362,18 +386,32 @@ all_formed told names classes bytes f = all_of IsClass classes (are_classes f.co
 pub few_classes : (told : Option Files) (names : List (List ℕ)) (classes : List ClassFile) (bytes : List ℕ) → AreFound told names (AreRead classes bytes) → length names ≤ 1024 → length classes ≤ 1024
 few_classes told names classes bytes f few = omega (arith, as_many f.contents classes f.such.are, AreUnder-length told names f.contents f.under)
 
--- linked classes are accepted where the one file is thin
-pub accepted : (a : Asked) (l : Loaded) (r : Result ThinCode Refusal) → refusals_of a l.classes ≡ [] → MatchResult r (IsOneThin a l.bytes.items) (IsNotThin a l.bytes.items) → MatchResult r (IsAccepted a l) (IsNotRun a l)
-accepted a l (Ok code) links h = record { links = links; thin = h }
-accepted a l (Err NotYet) links h = record { links = links; other = h }
-accepted a l (Err NoMemory) links h = tt
-accepted a l (Err (Link e)) links h = absurd h
-accepted a l (Err Usage) links h = absurd h
-accepted a l (Err (File k why)) links h = absurd h
-accepted a l (Err (NoFile k)) links h = absurd h
-accepted a l (Err (TooLong k)) links h = absurd h
-accepted a l (Err (ReadFault k)) links h = absurd h
-accepted a l (Err WriteFault) links h = absurd h
+-- accepted classes with their task, or without one
+pub set : (a : Asked) (l : Loaded) (r : Result Task Refusal) → IsFine a l.classes → MatchResult r (IsTask a l) (HasNoTask a l) → MatchResult r (IsSet a l) (IsNotSet a l)
+set a l (Ok t) fine h = record { fine = fine; task = h }
+set a l (Err NotYet) fine h = record { fine = fine; run = h.0; other = h.1 }
+set a l (Err NoMemory) fine h = tt
+set a l (Err (Link e)) fine h = absurd h
+set a l (Err (Flow e)) fine h = absurd h
+set a l (Err Usage) fine h = absurd h
+set a l (Err (File k why)) fine h = absurd h
+set a l (Err (NoFile k)) fine h = absurd h
+set a l (Err (TooLong k)) fine h = absurd h
+set a l (Err (ReadFault k)) fine h = absurd h
+set a l (Err WriteFault) fine h = absurd h
+
+-- files that are to be run and aren't one thin file have no task
+pub no_thin : (a : Asked) (l : Loaded) (e : Refusal) → a.command ≡ command.Run → IsNotThin a l.bytes.items e → HasNoTask a l e
+no_thin a l NotYet run n = (run, n)
+no_thin a l NoMemory run n = tt
+no_thin a l (Link e) run n = absurd n
+no_thin a l (Flow e) run n = absurd n
+no_thin a l Usage run n = absurd n
+no_thin a l (File k why) run n = absurd n
+no_thin a l (NoFile k) run n = absurd n
+no_thin a l (TooLong k) run n = absurd n
+no_thin a l (ReadFault k) run n = absurd n
+no_thin a l WriteFault run n = absurd n
 
 -- an error isn't of two kinds
 pub not_both : (e : ThinErr) → e ≡ thin.NotThin → e ≡ thin.NoMemory → ⊥

@@ -5,7 +5,13 @@ use Rattle.std.specs.Prelude.{slice_get}
 use Rattle.std.proofs.lemmas.Bool.Decides.{nat_tests}
 use Rattle.std.proofs.lemmas.Option.{slice_get_within}
 use Rattle.cjvm_io.specs.Shelves.{Files, bytes_under}
+use Rattle.std.specs.List.{All}
+use Rattle.acceptance.specs.Accepted as accepting
+use Rattle.acceptance.proofs.OneRejection.{one_rejection, not_both as not_accepted}
 use Rattle.class_format.specs.declared.class.ClassFile.{ClassFile}
+use Rattle.class_format.specs.Meaning.{IsClass}
+use Rattle.class_format.proofs.Recursion.{all_of}
+use Rattle.flow_verifier.specs.declared.answer.FlowErr.{FlowErr}
 use Rattle.class_file.specs.declared.error.ClassErr.{ClassErr}
 use Rattle.class_file.specs.Reading.Classes.{class_at}
 use Rattle.class_file.proofs.ClassLaws.{class_again}
@@ -14,11 +20,14 @@ use Rattle.link_rules.specs.declared.error.LinkErr.{LinkErr}
 use Rattle.class_link.specs.Refusals.{link_refusals}
 use Rattle.thin_file.specs.declared.thin.ThinCode.{ThinCode}
 use Rattle.one_jvm.specs.declared.outcome.Refusal.{Refusal}
-use Rattle.one_jvm.specs.declared.outcome.Refusal.TheVariants.{Usage, File, Link, NoFile, ReadFault, WriteFault, TooLong, NotYet, NoMemory}
-use Rattle.one_jvm.specs.Words.{Asked, IsRun, IsNoRun}
-use Rattle.one_jvm.specs.Verdicts.{limit, IsMissing, IsLong, IsRefusedFile, IsClassFile, AreClassFiles, StopsAt, main_of, AreLinked, AreRefused, IsThinFile, IsThinProgram, IsOtherProgram, Names, IsVerdict}
+use Rattle.one_jvm.specs.declared.outcome.Refusal.TheVariants.{Usage, File, Link, Flow, NoFile, ReadFault, WriteFault, TooLong, NotYet, NoMemory}
+use Rattle.one_jvm.specs.declared.words.Command.{Command}
+use Rattle.one_jvm.specs.declared.words.Command.TheVariants.{Run, Check}
+use Rattle.one_jvm.specs.Words.{Asked, IsCall, IsNoCall}
+use Rattle.one_jvm.specs.Verdicts.{limit, IsMissing, IsLong, IsRefusedFile, IsClassFile, AreClassFiles, StopsAt, main_of, AreAccepted, AreRefused, AreUntyped, IsThinFile, IsThinProgram, IsOtherProgram, IsChecked, Names, IsVerdict}
 use Rattle.one_jvm.specs.Outcomes.{status_of}
-use Rattle.one_jvm.proofs.WordLemmas.{one_run}
+use Rattle.one_jvm.proofs.LoadLemmas.{are_classes}
+use Rattle.one_jvm.proofs.WordLemmas.{one_call}
 
 -- a test stops with a verdict, or is passed and finds what the next stage goes on with
 abbrev Tests : {A V : Type 0} → (V → Type 0) → (A → Type 0) → (A → V → Type 0) → V → Type 0
@@ -109,30 +118,43 @@ stop_read n (suc k) (x ∷ contents) content (c ∷ classes) e at a r =
 
 -- ---- the stages
 
--- linked files are one thin file or aren't
-abbrev AtThin : List (Option (List ℕ)) → Option Refusal → Type 0
-AtThin contents = Tests (λ v. (v ≡ Some NotYet) × ((code : ThinCode) → ¬ IsThinFile code contents)) (λ (u : Unit {0}). (code : ThinCode) × IsThinFile code contents) (λ u v. v ≡ None)
+-- accepted files that are to be run are one thin file or aren't; those that are to be checked are done
+abbrev AtTask : Command → List (Option (List ℕ)) → Option Refusal → Type 0
+AtTask Run contents = Tests (λ v. (v ≡ Some NotYet) × ((code : ThinCode) → ¬ IsThinFile code contents)) (λ (u : Unit {0}). (code : ThinCode) × IsThinFile code contents) (λ u v. v ≡ None)
+AtTask Check contents = λ v. v ≡ None
+
+-- linked class files are accepted or aren't
+abbrev AtVerify : Asked → List (Option (List ℕ)) → List ClassFile → Option Refusal → Type 0
+AtVerify a contents classes = Tests (λ v. (e : FlowErr) × (v ≡ Some (Flow e)) × accepting.AreUntyped e classes (main_of a.main classes)) (λ (u : Unit {0}). accepting.AreAccepted classes (main_of a.main classes)) (λ u. AtTask a.command contents)
 
 -- class files are linked or aren't
-abbrev AtLink : Option (List ℕ) → List (Option (List ℕ)) → List ClassFile → Option Refusal → Type 0
-AtLink main contents classes = Tests (λ v. (e : LinkErr) × (v ≡ Some (Link e)) × (slice_get (link_refusals classes (main_of main classes)) 0 ≡ Some e)) (λ (u : Unit {0}). link_refusals classes (main_of main classes) ≡ []) (λ u. AtThin contents)
+abbrev AtLink : Asked → List (Option (List ℕ)) → List ClassFile → Option Refusal → Type 0
+AtLink a contents classes = Tests (λ v. (e : LinkErr) × (v ≡ Some (Link e)) × (slice_get (link_refusals classes (main_of a.main classes)) 0 ≡ Some e)) (λ (u : Unit {0}). link_refusals classes (main_of a.main classes) ≡ []) (λ u. AtVerify a contents classes)
 
 -- files are class files or aren't
-abbrev AtFiles : Option (List ℕ) → List (Option (List ℕ)) → Option Refusal → Type 0
-AtFiles main contents = Tests (λ v. (e : Refusal) × (v ≡ Some e) × (read_all 0 contents ≡ Err e)) (λ classes. read_all 0 contents ≡ Ok classes) (λ classes. AtLink main contents classes)
+abbrev AtFiles : Asked → List (Option (List ℕ)) → Option Refusal → Type 0
+AtFiles a contents = Tests (λ v. (e : Refusal) × (v ≡ Some e) × (read_all 0 contents ≡ Err e)) (λ classes. (read_all 0 contents ≡ Ok classes) × All IsClass classes) (λ classes. AtLink a contents classes)
 
 -- what there is under the names of the files
 abbrev contents_of : Files → Asked → List (Option (List ℕ))
 contents_of fs a = map (bytes_under fs) a.files
 
--- the words ask to run files or don't
+-- the words are a command's or aren't
 abbrev AtWords : Files → List (List ℕ) → Option Refusal → Type 0
-AtWords fs words = Tests (λ v. (v ≡ Some Usage) × IsNoRun words) (IsRun words) (λ a. AtFiles a.main (contents_of fs a))
+AtWords fs words = Tests (λ v. (v ≡ Some Usage) × IsNoCall words) (IsCall words) (λ a. AtFiles a (contents_of fs a))
 
 -- ---- each stage has one verdict at most
 
-one_at_thin : (contents : List (Option (List ℕ))) (v w : Option Refusal) → AtThin contents v → AtThin contents w → v ≡ w
-one_at_thin contents = one_stage _ _ _ (λ v w p q. p.0 ∙ sym q.0) (λ a b p q. refl) (λ v a p t. p.1 t.0 t.1) (λ a v w t p q. p ∙ sym q)
+one_at_task : (c : Command) (contents : List (Option (List ℕ))) (v w : Option Refusal) → AtTask c contents v → AtTask c contents w → v ≡ w
+one_at_task Run contents = one_stage _ _ _ (λ v w p q. p.0 ∙ sym q.0) (λ a b p q. refl) (λ v a p t. p.1 t.0 t.1) (λ a v w t p q. p ∙ sym q)
+one_at_task Check contents = λ v w p q. p ∙ sym q
+
+one_at_verify : (a : Asked) (contents : List (Option (List ℕ))) (classes : List ClassFile) → All IsClass classes → (v w : Option Refusal) → AtVerify a contents classes v → AtVerify a contents classes w → v ≡ w
+one_at_verify a contents classes formed = one_stage _ _ _
+    (λ v w p q. p.1 ∙ ap (λ (e : FlowErr). Some (Flow e)) (one_rejection classes (main_of a.main classes) formed p.0 q.0 p.2 q.2) ∙ sym q.1)
+    (λ x y p q. refl)
+    (λ v x p h. not_accepted classes (main_of a.main classes) p.0 p.2 h)
+    (λ x v w h p q. one_at_task a.command contents v w p q)
 
 -- a list has one first item
 one_first : (xs : List LinkErr) (d e : LinkErr) → slice_get xs 0 ≡ Some d → slice_get xs 0 ≡ Some e → d ≡ e
@@ -143,12 +165,12 @@ no_first : (xs : List LinkErr) (e : LinkErr) → slice_get xs 0 ≡ Some e → x
 no_first [] e p q = absurd cc
 no_first (x ∷ xs) e p q = absurd cc
 
-one_at_link : (main : Option (List ℕ)) (contents : List (Option (List ℕ))) (classes : List ClassFile) (v w : Option Refusal) → AtLink main contents classes v → AtLink main contents classes w → v ≡ w
-one_at_link main contents classes = one_stage _ _ _
-    (λ v w p q. p.1 ∙ ap (λ (e : LinkErr). Some (Link e)) (one_first (link_refusals classes (main_of main classes)) p.0 q.0 p.2 q.2) ∙ sym q.1)
-    (λ a b p q. refl)
-    (λ v a p l. no_first (link_refusals classes (main_of main classes)) p.0 p.2 l)
-    (λ a v w l p q. one_at_thin contents v w p q)
+one_at_link : (a : Asked) (contents : List (Option (List ℕ))) (classes : List ClassFile) → All IsClass classes → (v w : Option Refusal) → AtLink a contents classes v → AtLink a contents classes w → v ≡ w
+one_at_link a contents classes formed = one_stage _ _ _
+    (λ v w p q. p.1 ∙ ap (λ (e : LinkErr). Some (Link e)) (one_first (link_refusals classes (main_of a.main classes)) p.0 q.0 p.2 q.2) ∙ sym q.1)
+    (λ x y p q. refl)
+    (λ v x p l. no_first (link_refusals classes (main_of a.main classes)) p.0 p.2 l)
+    (λ x v w l p q. one_at_verify a contents classes formed v w p q)
 
 -- a reading answers one error
 same_error : (r : Result (List ClassFile) Refusal) (d e : Refusal) → r ≡ Err d → r ≡ Err e → d ≡ e
@@ -162,45 +184,63 @@ same_classes r d e p q = let both : (let x : Result (List ClassFile) Refusal = O
 not_both : (r : Result (List ClassFile) Refusal) (e : Refusal) (cs : List ClassFile) → r ≡ Err e → r ≡ Ok cs → ⊥
 not_both r e cs p q = let both : (let x : Result (List ClassFile) Refusal = Err e in x ≡ Ok cs) = sym p ∙ q in absurd cc
 
-one_at_files : (main : Option (List ℕ)) (contents : List (Option (List ℕ))) (v w : Option Refusal) → AtFiles main contents v → AtFiles main contents w → v ≡ w
-one_at_files main contents = one_stage _ _ _
+one_at_files : (a : Asked) (contents : List (Option (List ℕ))) (v w : Option Refusal) → AtFiles a contents v → AtFiles a contents w → v ≡ w
+one_at_files a contents = one_stage _ _ _
     (λ v w p q. p.1 ∙ ap (λ (e : Refusal). Some e) (same_error (read_all 0 contents) p.0 q.0 p.2 q.2) ∙ sym q.1)
-    (λ a b p q. same_classes (read_all 0 contents) a b p q)
-    (λ v a p c. not_both (read_all 0 contents) p.0 a p.2 c)
-    (λ a v w c p q. one_at_link main contents a v w p q)
+    (λ x y p q. same_classes (read_all 0 contents) x y p.0 q.0)
+    (λ v x p c. not_both (read_all 0 contents) p.0 x p.2 c.0)
+    (λ x v w c p q. one_at_link a contents x c.1 v w p q)
 
 one_at_words : (fs : Files) (words : List (List ℕ)) (v w : Option Refusal) → AtWords fs words v → AtWords fs words w → v ≡ w
 one_at_words fs words = one_stage _ _ _
     (λ v w p q. p.0 ∙ sym q.0)
-    (λ a b p q. one_run words a b p q)
+    (λ a b p q. one_call words a b p q)
     (λ v a p r. p.1 a r)
-    (λ a v w r p q. one_at_files a.main (contents_of fs a) v w p q)
+    (λ a v w r p q. one_at_files a (contents_of fs a) v w p q)
 
 -- ---- each verdict stands at its stage
 
 module _ (fs : Files) (words : List (List ℕ)) where
   -- of what there is under the names
-  at_names : (P : Option (List ℕ) → List (Option (List ℕ)) → Type 0) (v : Option Refusal) → ((main : Option (List ℕ)) (contents : List (Option (List ℕ))) → P main contents → AtFiles main contents v) → Names (Some fs) words P → AtWords fs words v
-  at_names P v f n = inr (n.asked, n.is_run, subst (λ (contents : List (Option (List ℕ))). AtFiles n.asked.main contents v) n.under (f n.asked.main n.contents n.such))
+  at_names : (P : Asked → List (Option (List ℕ)) → Type 0) (v : Option Refusal) → ((a : Asked) (contents : List (Option (List ℕ))) → P a contents → AtFiles a contents v) → Names (Some fs) words P → AtWords fs words v
+  at_names P v f n = inr (n.asked, n.is_call, subst (λ (contents : List (Option (List ℕ))). AtFiles n.asked contents v) n.under (f n.asked n.contents n.such))
 
   -- a file at which reading stops
-  at_stop : (P : Option (List ℕ) → Type 0) (k : ℕ) (e : Refusal) → ((content : Option (List ℕ)) → P content → read_at k content ≡ Err e) → Names (Some fs) words (λ main. StopsAt P k) → AtWords fs words (Some e)
-  at_stop P k e read = at_names (λ main. StopsAt P k) (Some e) (λ main contents s.
+  at_stop : (P : Option (List ℕ) → Type 0) (k : ℕ) (e : Refusal) → ((content : Option (List ℕ)) → P content → read_at k content ≡ Err e) → Names (Some fs) words (λ asked. StopsAt P k) → AtWords fs words (Some e)
+  at_stop P k e read = at_names (λ asked. StopsAt P k) (Some e) (λ a contents s.
       let place : 0 + k ≡ k = omega arith in
       inl (e, refl, stop_read 0 k contents s.content s.classes e s.at s.before (ap (λ (m : ℕ). read_at m s.content) place ∙ read s.content s.such)))
 
-  -- class files that are linked go on
-  at_linked : (main : Option (List ℕ)) (contents : List (Option (List ℕ))) (v : Option Refusal) → AreLinked main contents → AtThin contents v → AtFiles main contents v
-  at_linked main contents v l rest = inr (l.classes, classes_read 0 contents l.classes l.are, inr (tt, l.links, rest))
+  -- class files go on
+  at_classes : (a : Asked) (contents : List (Option (List ℕ))) (classes : List ClassFile) (v : Option Refusal) → AreClassFiles contents classes → AtLink a contents classes v → AtFiles a contents v
+  at_classes a contents classes v are rest = inr (classes, (classes_read 0 contents classes are, all_of IsClass classes (are_classes contents classes are)), rest)
+
+  -- those that are accepted go on further
+  at_accepted : (a : Asked) (contents : List (Option (List ℕ))) (v : Option Refusal) → AreAccepted a contents → AtTask a.command contents v → AtFiles a contents v
+  at_accepted a contents v l rest = at_classes a contents l.classes v l.are (inr (tt, l.accepted.links, inr (tt, l.accepted, rest)))
+
+  -- a thin file has its task
+  at_thin : (code : ThinCode) (a : Asked) (contents : List (Option (List ℕ))) → IsThinProgram code a contents → AtFiles a contents None
+  at_thin code a contents t = at_accepted a contents None t.accepted (subst (λ (c : Command). AtTask c contents None) (sym t.run) (inr (tt, (code, t.file), refl)))
+
+  -- other files have none
+  at_other : (a : Asked) (contents : List (Option (List ℕ))) → IsOtherProgram a contents → AtFiles a contents (Some NotYet)
+  at_other a contents o = at_accepted a contents (Some NotYet) o.accepted (subst (λ (c : Command). AtTask c contents (Some NotYet)) (sym o.run) (inl (refl, o.other)))
+
+  -- a check is done
+  at_checked : (a : Asked) (contents : List (Option (List ℕ))) → IsChecked a contents → AtFiles a contents None
+  at_checked a contents c = at_accepted a contents None c.accepted (subst (λ (x : Command). AtTask x contents None) (sym c.check) refl)
 
   at_words : (v : Option Refusal) → IsVerdict (Some fs) words v → AtWords fs words v
-  at_words None h = at_names (IsThinProgram h.0) None (λ main contents t. at_linked main contents None t.linked (inr (tt, (h.0, t.file), refl))) h.1
-  at_words (Some (Link e)) h = at_names (AreRefused e) (Some (Link e)) (λ main contents r. inr (r.classes, classes_read 0 contents r.classes r.are, inl (e, refl, r.first))) h
+  at_words None (inl h) = at_names (IsThinProgram h.0) None (at_thin h.0) h.1
+  at_words None (inr h) = at_names IsChecked None at_checked h
+  at_words (Some (Link e)) h = at_names (AreRefused e) (Some (Link e)) (λ a contents r. at_classes a contents r.classes (Some (Link e)) r.are (inl (e, refl, r.first))) h
+  at_words (Some (Flow e)) h = at_names (AreUntyped e) (Some (Flow e)) (λ a contents r. at_classes a contents r.classes (Some (Flow e)) r.are (inr (tt, r.untyped.links, inl (e, refl, r.untyped)))) h
   at_words (Some Usage) h = inl (refl, h)
   at_words (Some (NoFile k)) h = at_stop IsMissing k (NoFile k) (missing_read k) h
   at_words (Some (TooLong k)) h = at_stop IsLong k (TooLong k) (long_read k) h
   at_words (Some (File k why)) h = at_stop (IsRefusedFile why) k (File k why) (λ content. refused_read k content why) h
-  at_words (Some NotYet) h = at_names IsOtherProgram (Some NotYet) (λ main contents o. at_linked main contents (Some NotYet) o.linked (inl (refl, o.other))) h
+  at_words (Some NotYet) h = at_names IsOtherProgram (Some NotYet) at_other h
   at_words (Some (ReadFault k)) h = absurd h
   at_words (Some WriteFault) h = absurd h
   at_words (Some NoMemory) h = absurd h

@@ -9,9 +9,9 @@ use Rattle.cjvm_io.specs.Sinks.{Showing}
 use Rattle.one_jvm.specs.declared.outcome.Stop.{Stop}
 use Rattle.one_jvm.specs.declared.outcome.Stop.TheVariants as stop
 use Rattle.one_jvm.specs.declared.outcome.Refusal.{Refusal}
-use Rattle.one_jvm.specs.declared.outcome.Refusal.TheVariants.{Usage, File, Link, NoFile, ReadFault, WriteFault, TooLong, NotYet, NoMemory}
-use Rattle.one_jvm.specs.Words.{IsNoRun}
-use Rattle.one_jvm.specs.Verdicts.{LacksFile, HasLongFile, HasOtherFiles, IsRefusedCall, HasThinFile, IsVerdict}
+use Rattle.one_jvm.specs.declared.outcome.Refusal.TheVariants.{Usage, File, Link, Flow, NoFile, ReadFault, WriteFault, TooLong, NotYet, NoMemory}
+use Rattle.one_jvm.specs.Words.{IsNoCall, IsCheck}
+use Rattle.one_jvm.specs.Verdicts.{LacksFile, HasLongFile, HasOtherFiles, IsRefusedCall, IsDoneCall, IsVerdict}
 use Rattle.one_jvm.specs.Outcomes.{status_of}
 use Rattle.one_jvm.specs.Answers.{Faults, IsHindrance, IsHindered, Because, Agrees, OneOf, hindered, Exactly, Answers, IsClosed}
 use Rattle.one_jvm.proofs.OneVerdict.{one_status}
@@ -30,8 +30,8 @@ data Cause : Type 0 where
 
 -- what each says
 abbrev holds : Cause → Option Files → List (List ℕ) → Type 0
-holds Accepted told words = HasThinFile told words
-holds Misused told words = IsNoRun words
+holds Accepted told words = IsDoneCall told words
+holds Misused told words = IsNoCall words
 holds Refused told words = IsRefusedCall told words
 holds Missing told words = LacksFile told words
 holds Long told words = HasLongFile told words
@@ -49,7 +49,8 @@ caused : (told : Option Files) (words : List (List ℕ)) (v : Option Refusal) �
 caused told words None h = h
 caused told words (Some Usage) h = h
 caused told words (Some (File k why)) h = inl (k, why, h)
-caused told words (Some (Link e)) h = inr (e, h)
+caused told words (Some (Link e)) h = inr (inl (e, h))
+caused told words (Some (Flow e)) h = inr (inr (e, h))
 caused told words (Some (NoFile k)) h = (k, h)
 caused told words (Some (TooLong k)) h = (k, h)
 caused told words (Some NotYet) h = h
@@ -65,6 +66,7 @@ strikes told words faults NoMemory h = inr (inr (inl refl))
 strikes told words faults Usage h = absurd h
 strikes told words faults (File k why) h = absurd h
 strikes told words faults (Link x) h = absurd h
+strikes told words faults (Flow x) h = absurd h
 strikes told words faults (NoFile k) h = absurd h
 strikes told words faults (TooLong k) h = absurd h
 strikes told words faults NotYet h = absurd h
@@ -77,6 +79,7 @@ read_rose told words faults NoMemory h e = absurd (omega arith)
 read_rose told words faults Usage h e = absurd h
 read_rose told words faults (File k why) h e = absurd h
 read_rose told words faults (Link x) h e = absurd h
+read_rose told words faults (Flow x) h e = absurd h
 read_rose told words faults (NoFile k) h e = absurd h
 read_rose told words faults (TooLong k) h e = absurd h
 read_rose told words faults NotYet h e = absurd h
@@ -89,6 +92,7 @@ write_rose told words faults NoMemory h e = absurd (omega arith)
 write_rose told words faults Usage h e = absurd h
 write_rose told words faults (File k why) h e = absurd h
 write_rose told words faults (Link x) h e = absurd h
+write_rose told words faults (Flow x) h e = absurd h
 write_rose told words faults (NoFile k) h e = absurd h
 write_rose told words faults (TooLong k) h e = absurd h
 write_rose told words faults NotYet h e = absurd h
@@ -108,17 +112,20 @@ apart (n ∷ ns) k e (inr o) = apart ns k (or_parts (k == n) (has ns k) e).1 o
 -- what is refused has a verdict
 refused_verdict : (fs : Files) (words : List (List ℕ)) → IsRefusedCall (Some fs) words → (v : Option Refusal) × IsVerdict (Some fs) words v × (status_of v ≡ 3)
 refused_verdict fs words (inl r) = (Some (File r.0 r.1), r.2, refl)
-refused_verdict fs words (inr r) = (Some (Link r.0), r.1, refl)
+refused_verdict fs words (inr (inl r)) = (Some (Link r.0), r.1, refl)
+refused_verdict fs words (inr (inr r)) = (Some (Flow r.0), r.1, refl)
 
 -- words that are no command have their verdict
-no_run : (told : Option Files) (words : List (List ℕ)) (v : Option Refusal) → IsNoRun words → IsVerdict told words v → v ≡ Some Usage
-no_run told words None n h = absurd (n h.1.asked h.1.is_run)
+no_run : (told : Option Files) (words : List (List ℕ)) (v : Option Refusal) → IsNoCall words → IsVerdict told words v → v ≡ Some Usage
+no_run told words None n (inl h) = absurd (n h.1.asked h.1.is_call)
+no_run told words None n (inr h) = absurd (n h.asked h.is_call)
 no_run told words (Some Usage) n h = refl
-no_run told words (Some (File k why)) n h = absurd (n h.asked h.is_run)
-no_run told words (Some (Link e)) n h = absurd (n h.asked h.is_run)
-no_run told words (Some (NoFile k)) n h = absurd (n h.asked h.is_run)
-no_run told words (Some (TooLong k)) n h = absurd (n h.asked h.is_run)
-no_run told words (Some NotYet) n h = absurd (n h.asked h.is_run)
+no_run told words (Some (File k why)) n h = absurd (n h.asked h.is_call)
+no_run told words (Some (Link e)) n h = absurd (n h.asked h.is_call)
+no_run told words (Some (Flow e)) n h = absurd (n h.asked h.is_call)
+no_run told words (Some (NoFile k)) n h = absurd (n h.asked h.is_call)
+no_run told words (Some (TooLong k)) n h = absurd (n h.asked h.is_call)
+no_run told words (Some NotYet) n h = absurd (n h.asked h.is_call)
 no_run told words (Some (ReadFault k)) n h = absurd h
 no_run told words (Some WriteFault) n h = absurd h
 no_run told words (Some NoMemory) n h = absurd h
@@ -177,11 +184,11 @@ module _ (words : List (List ℕ)) (told : Option Files) (faults : Faults) (plai
   pub not_yet : Answers told words status 14 HasOtherFiles
   not_yet = answers 14 (apart hindered 14 refl) (λ fs o. (Some NotYet, o, refl))
 
-  pub ended : Answers told words status 0 HasThinFile
+  pub ended : Answers told words status 0 IsDoneCall
   ended = answers 0 (apart hindered 0 refl) (λ fs t. (None, t, refl))
 
   -- words that are no command have their status, whatever the files
-  pub usage : Exactly status 2 (6 ∷ []) (IsNoRun words)
+  pub usage : Exactly status 2 (6 ∷ []) (IsNoCall words)
   usage = record {
     only = λ e. ⊎_elim
         (λ p. ⊎_elim
@@ -191,7 +198,7 @@ module _ (words : List (List ℕ)) (told : Option Files) (faults : Faults) (plai
     always = λ n. ⊎_elim
         (λ p. ⊎_elim
         (λ o. inl (p ∙ ap status_of (no_run told words plain n o)))
-        (λ x. absurd (n x.is_run.0 x.is_run.1)) b)
+        (λ x. absurd (n x.is_call.0 x.is_call.1)) b)
         (λ p. inr (inl p)) shows;
   }
 
@@ -225,6 +232,7 @@ none_is None e = refl
 none_is (Some Usage) e = absurd (omega arith)
 none_is (Some (File k why)) e = absurd (omega arith)
 none_is (Some (Link x)) e = absurd (omega arith)
+none_is (Some (Flow x)) e = absurd (omega arith)
 none_is (Some (NoFile k)) e = absurd (omega arith)
 none_is (Some (ReadFault k)) e = absurd (omega arith)
 none_is (Some WriteFault) e = absurd (omega arith)
@@ -232,12 +240,18 @@ none_is (Some (TooLong k)) e = absurd (omega arith)
 none_is (Some NotYet) e = absurd (omega arith)
 none_is (Some NoMemory) e = absurd (omega arith)
 
--- a call that isn't refused ran its program to the end
-done_of : (s : Option Stop) → Agrees s None → s ≡ Some stop.Done
-done_of None a = absurd (a.0 refl)
-done_of (Some stop.Done) a = refl
-done_of (Some stop.WriteFault) a = absurd cc
-done_of (Some stop.NoMemory) a = absurd cc
+-- a call that isn't refused and asks for no check ran its program to the end
+done_of : (words : List (List ℕ)) (s : Option Stop) → ¬ IsCheck words → Agrees words s None → s ≡ Some stop.Done
+done_of words None n (inl c) = absurd (n c)
+done_of words None n (inr a) = absurd (a.0 refl)
+done_of words (Some stop.Done) n a = refl
+done_of words (Some stop.WriteFault) n a = absurd (let e = a.1 in cc)
+done_of words (Some stop.NoMemory) n a = absurd (let e = a.1 in cc)
+
+-- a check runs no program
+pub unrun : (words : List (List ℕ)) (s : Option Stop) (refusal : Option Refusal) → Agrees words s refusal → IsCheck words → s ≡ None
+unrun words None refusal a c = refl
+unrun words (Some s) refusal a c = absurd (a.0 c)
 
 -- a fault of standard error hides a refusal, never that there is none
 pub plain_none : (plain refusal : Option Refusal) → IsOrHides plain refusal → refusal ≡ None → plain ≡ None
@@ -248,8 +262,8 @@ pub silent_at_zero : (plain refusal : Option Refusal) (status : ℕ) → status 
 silent_at_zero plain refusal status s h e = plain_none plain refusal h (none_is refusal (sym s ∙ e))
 
 -- status 0 comes exactly where the run came to its end
-pub done : (s : Option Stop) (plain refusal : Option Refusal) (status : ℕ) → status ≡ status_of refusal → IsOrHides plain refusal → Agrees s plain → (plain ≡ None → refusal ≡ None) → (status ≡ 0) ↔ (s ≡ Some stop.Done)
-done s plain refusal status e h a silent = (
-  λ z. done_of s (subst (Agrees s) (silent_at_zero plain refusal status e h z) a),
-  λ d. let p : Agrees (Some stop.Done) plain = subst (λ (x : Option Stop). Agrees x plain) d a in e ∙ ap status_of (silent p),
+pub done : (words : List (List ℕ)) (s : Option Stop) (plain refusal : Option Refusal) (status : ℕ) → status ≡ status_of refusal → IsOrHides plain refusal → Agrees words s plain → (plain ≡ None → refusal ≡ None) → ¬ IsCheck words → (status ≡ 0) ↔ (s ≡ Some stop.Done)
+done words s plain refusal status e h a silent n = (
+  λ z. done_of words s n (subst (Agrees words s) (silent_at_zero plain refusal status e h z) a),
+  λ d. let p : Agrees words (Some stop.Done) plain = subst (λ (x : Option Stop). Agrees words x plain) d a in e ∙ ap status_of (silent p.1),
 )

@@ -6,7 +6,9 @@ use Rattle.std.proofs.Math.Seq.{drop-cons}
 use Rattle.std.proofs.lemmas.Bool.{or_parts}
 use Rattle.std.proofs.lemmas.List.{map-append}
 use Rattle.std.proofs.lemmas.List.Folds.{list_any-append, list_any_more}
-use Rattle.one_jvm.specs.Words.{texts, is_option, ArePlain, Asked, IsMixed, IsSpelled, IsRun, IsNoRun, name_at}
+use Rattle.one_jvm.specs.declared.words.Command.{Command}
+use Rattle.one_jvm.specs.declared.words.Command.TheVariants.{Run, Check}
+use Rattle.one_jvm.specs.Words.{texts, is_option, command_word, ArePlain, Asked, IsMixed, IsSpelled, IsCall, IsNoCall, IsCheck, name_at}
 use Rattle.one_jvm.specs.declared.outcome.Refusal.{Refusal}
 use Rattle.one_jvm.specs.Outcomes.{place_of}
 use Rattle.one_jvm.specs.Answers.{IsNamed}
@@ -84,28 +86,47 @@ one_spelling words (Some m) (Some n) fs gs s t p q =
     let after : s.after ≡ t.after = cc in
     (ap (λ (z : List ℕ). Some z) value, s.named ∙ ap (λ (z : List (List ℕ)). z ++ s.after) front ∙ ap (λ (z : List (List ℕ)). t.before ++ z) after ∙ sym t.named)
 
-abbrev asked : Option (List ℕ) → List (List ℕ) → Asked
-asked main files = record { main = main; files = files }
+-- what is asked
+abbrev asked : Command → Option (List ℕ) → List (List ℕ) → Asked
+asked command main files = record { command = command; main = main; files = files }
+
+-- a word is that of one command
+one_command : (c d : Command) → command_word c ≡ command_word d → c ≡ d
+one_command Run Run e = refl
+one_command Check Check e = refl
+one_command Run Check e = let n : 3 ≡ 5 = ap length e in absurd (omega arith)
+one_command Check Run e = let n : 5 ≡ 3 = ap length e in absurd (omega arith)
 
 -- words ask for one thing
-pub one_run : (words : List (List ℕ)) (a b : Asked) → IsRun words a → IsRun words b → a ≡ b
-one_run words a b h k =
-    let first : codes "run" ∷ h.rest ≡ codes "run" ∷ k.rest = sym h.command ∙ k.command in
+pub one_call : (words : List (List ℕ)) (a b : Asked) → IsCall words a → IsCall words b → a ≡ b
+one_call words a b h k =
+    let first : command_word a.command ∷ h.rest ≡ command_word b.command ∷ k.rest = sym h.command ∙ k.command in
+    let word : command_word a.command ≡ command_word b.command = cc in
     let rest : h.rest ≡ k.rest = cc in
     let both = one_spelling k.rest a.main b.main a.files b.files (subst (IsSpelled a.main a.files) rest h.spelled) k.spelled h.plain k.plain in
-    ap (λ (m : Option (List ℕ)). asked m a.files) both.0 ∙ ap (λ (fs : List (List ℕ)). asked b.main fs) both.1
+    ap (λ (c : Command). asked c a.main a.files) (one_command a.command b.command word)
+    ∙ ap (λ (m : Option (List ℕ)). asked b.command m a.files) both.0
+    ∙ ap (λ (fs : List (List ℕ)). asked b.command b.main fs) both.1
+
+-- words that ask to run files don't ask to check them
+pub no_check : (words : List (List ℕ)) (a : Asked) → IsCall words a → a.command ≡ Run → IsCheck words → ⊥
+no_check words a h run k =
+    let same : a.command ≡ k.0.command = ap (λ (x : Asked). x.command) (one_call words a k.0 h k.1.0) in
+    let both : Run ≡ Check = sym run ∙ same ∙ k.1.1 in
+    absurd cc
 
 -- ---- what is read
 
 -- plain words are files
-pub reads_plain : {A : Type 0} (rest before behind : List (String A)) → before ++ behind ≡ rest → behind ≡ [] → ArePlain (texts before) → IsReading (texts rest) (asked None (texts before ++ texts behind))
-reads_plain rest before behind e n p =
-    record { spelled = joined rest before behind e; plain = plain_both (texts before) (texts behind) p (rw n refl) }
+pub reads_plain : {A : Type 0} (command : Command) (rest before behind : List (String A)) → before ++ behind ≡ rest → behind ≡ [] → ArePlain (texts before) → IsReading command (texts rest) (asked command None (texts before ++ texts behind))
+reads_plain command rest before behind e n p =
+    record { command_is = refl; spelled = joined rest before behind e; plain = plain_both (texts before) (texts behind) p (rw n refl) }
 
 -- the option among files
-pub reads_mixed : {A : Type 0} (rest before behind after : List (String A)) (main : List ℕ) → before ++ behind ≡ rest → ArePlain (texts before) → IsOption (texts behind) main (texts after) → IsReading (texts rest) (asked (Some main) (texts before ++ texts after))
-reads_mixed rest before behind after main e p o =
+pub reads_mixed : {A : Type 0} (command : Command) (rest before behind after : List (String A)) (main : List ℕ) → before ++ behind ≡ rest → ArePlain (texts before) → IsOption (texts behind) main (texts after) → IsReading command (texts rest) (asked command (Some main) (texts before ++ texts after))
+reads_mixed command rest before behind after main e p o =
     record {
+      command_is = refl;
       spelled = record { before = texts before; after = texts after; named = refl; value = o.value; spelled = joined rest before behind e ∙ ap (λ (z : List (List ℕ)). texts before ++ z) o.spelled };
       plain = plain_both (texts before) (texts after) p o.plain;
     }
@@ -125,20 +146,20 @@ not_empty [] b f e n = let q : false ≡ true = sym f ∙ e in absurd cc
 not_empty (x ∷ xs) b f e n = absurd cc
 
 -- nothing is read
-pub reads_nothing : {A : Type 0} (rest before behind : List (String A)) → before ++ behind ≡ rest → (behind ≡ [] → ⊥) → ArePlain (texts before) → Begins (texts behind) → IsNoOption (texts behind) → IsUnread (texts rest)
-reads_nothing rest before behind e some p b n asked r =
+pub reads_nothing : {A : Type 0} (command : Command) (rest before behind : List (String A)) → before ++ behind ≡ rest → (behind ≡ [] → ⊥) → ArePlain (texts before) → Begins (texts behind) → IsNoOption (texts behind) → IsUnread command (texts rest)
+reads_nothing command rest before behind e some p b n asked r =
     unread (texts rest) (texts before) (texts behind) asked.main asked.files (joined rest before behind e) (λ h. some (none behind h)) p b n r.spelled r.plain
 
 -- ---- the name in a report
 
 -- the name at the refusal's place
-pub named : (words : List (List ℕ)) (e : Refusal) (place : ℕ) (a : Asked) (name : List ℕ) → Some place ≡ place_of e → IsRun words a → name ≡ name_at a.files place → IsNamed words e name
+pub named : (words : List (List ℕ)) (e : Refusal) (place : ℕ) (a : Asked) (name : List ℕ) → Some place ≡ place_of e → IsCall words a → name ≡ name_at a.files place → IsNamed words e name
 named words e place a name at run n b k h p =
     let same : Some k ≡ Some place = sym p ∙ sym at in
     let k_is : k ≡ place = cc in
-    n ∙ ap (λ (x : Asked). name_at x.files place) (one_run words a b run h) ∙ ap (name_at b.files) (sym k_is)
+    n ∙ ap (λ (x : Asked). name_at x.files place) (one_call words a b run h) ∙ ap (name_at b.files) (sym k_is)
 
 -- a refusal without a place names no file, and words that are no command name none
-pub unnamed : (words : List (List ℕ)) (e : Refusal) (name : List ℕ) → (None ≡ place_of e) ⊎ IsNoRun words → IsNamed words e name
+pub unnamed : (words : List (List ℕ)) (e : Refusal) (name : List ℕ) → (None ≡ place_of e) ⊎ IsNoCall words → IsNamed words e name
 unnamed words e name (inl none) b k h p = let q : None ≡ Some k = none ∙ p in absurd cc
 unnamed words e name (inr n) b k h p = absurd (n b h)

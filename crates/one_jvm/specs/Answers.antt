@@ -5,16 +5,15 @@ use Rattle.cjvm_io.specs.Faults.{Rose}
 use Rattle.cjvm_io.specs.Shelves.{Files}
 use Rattle.cjvm_io.specs.Sinks.{Showing, GainsFront}
 use Rattle.class_format.specs.declared.class.ClassFile.{ClassFile}
-use Rattle.link_rules.specs.declared.error.LinkErr.{LinkErr}
 use Rattle.thin_file.specs.declared.thin.ThinCode.{ThinCode}
 use Rattle.one_machine.specs.declared.state.Choice.{Choice}
 use Rattle.one_jvm.specs.declared.outcome.Stop.{Stop}
 use Rattle.one_jvm.specs.declared.outcome.Stop.TheVariants as stop
 use Rattle.one_jvm.specs.declared.outcome.Refusal.{Refusal}
-use Rattle.one_jvm.specs.declared.outcome.Refusal.TheVariants.{Usage, File, Link, NoFile, ReadFault, WriteFault, TooLong, NotYet, NoMemory}
-use Rattle.one_jvm.specs.Words.{Asked, IsRun, IsSomeRun, name_at}
-use Rattle.one_jvm.specs.Verdicts.{AreClassFiles, Names, StopsFor, IsThinProgram, IsVerdict}
-use Rattle.one_jvm.specs.Outcomes.{place_of, link_text, report}
+use Rattle.one_jvm.specs.declared.outcome.Refusal.TheVariants.{Usage, File, Link, Flow, NoFile, ReadFault, WriteFault, TooLong, NotYet, NoMemory}
+use Rattle.one_jvm.specs.Words.{Asked, IsCall, IsSomeCall, IsCheck, name_at}
+use Rattle.one_jvm.specs.Verdicts.{AreClassFiles, Names, StopsFor, IsThinProgram, IsChecked, IsVerdict}
+use Rattle.one_jvm.specs.Outcomes.{place_of, told_text, accepted_text, report}
 use Rattle.one_jvm.specs.Runs.{RanTo}
 
 -- ---- the cause of a refusal, apart from faults of standard error
@@ -54,14 +53,15 @@ IsHindrance told words faults NoMemory = Unit {0}
 IsHindrance told words faults Usage = ⊥
 IsHindrance told words faults (File k why) = ⊥
 IsHindrance told words faults (Link e) = ⊥
+IsHindrance told words faults (Flow e) = ⊥
 IsHindrance told words faults (NoFile k) = ⊥
 IsHindrance told words faults (TooLong k) = ⊥
 IsHindrance told words faults NotYet = ⊥
 
--- a hindrance kept the call from its verdict; it comes only where the words ask to run files
+-- a hindrance kept the call from its verdict; it comes only where the words are a command's
 pub record IsHindered (told : Option Files) (words : List (List ℕ)) (faults : Faults)
     (refusal : Option Refusal) : Type 0 where
-  pub is_run : IsSomeRun words
+  pub is_call : IsSomeCall words
   pub hindrance : Refusal
   pub strikes : IsHindrance told words faults hindrance
   pub shows : refusal ≡ Some hindrance
@@ -73,11 +73,46 @@ Because words told faults refusal =
 
 -- ---- the order, and what standard output gained
 
+-- the files are to be checked and are accepted, and this is the line that says so
+pub record IsAccepted (text : List ℕ) (asked : Asked) (contents : List (Option (List ℕ)))
+    : Type 0 where
+  pub checked : IsChecked asked contents
+  pub classes : List ClassFile
+  pub are : AreClassFiles contents classes
+  pub is : text ≡ accepted_text classes
+
+-- some line says that the words' files are accepted, and the sink gained what G says of it
+pub record Accepts (told : Option Files) (words : List (List ℕ)) (G : List ℕ → Type 0)
+    : Type 0 where
+  pub text : List ℕ
+  pub files : Names told words (IsAccepted text)
+  pub gained : G text
+
+-- what a sink gained of a line, by how its writing ended
+abbrev pub Says : List ℕ → Showing → Showing → Option Refusal → Type 0
+Says line before now None = Appends before.held now.held line
+Says line before now (Some e) =
+    (e ≡ WriteFault) × Rose before.faults now.faults × GainsFront before.held now.held line
+
+-- what standard output gained where no run was begun: the line of accepted files where nothing is
+-- refused; else nothing, or a front of the line where a write of it failed
+abbrev pub Wrote : List (List ℕ) → Option Files → Showing → Showing → Option Refusal → Type 0
+Wrote words told before now None = Accepts told words (λ line. Says line before now None)
+Wrote words told before now (Some e) =
+    (now ≡ before) ⊎ Accepts told words (λ line. Says line before now (Some e))
+
+-- no run was begun, and no write of a check's line failed: the words are no check's, or the files are
+-- refused
+abbrev pub IsUnwritten : List (List ℕ) → Option Stop → Option Refusal → Type 0
+IsUnwritten words stop refusal =
+    (stop ≡ None)
+    × (¬ IsCheck words ⊎ ((refusal ≢ None) × (refusal ≢ Some WriteFault)))
+
 -- where no run was begun the order is empty; where one was, it is one of the file's program
 abbrev pub Ran : List (List ℕ) → Option Files → Showing → Showing → List Choice → Option Stop
-    → Type 0
-Ran words told before now order None = order ≡ []
-Ran words told before now order (Some s) =
+    → Option Refusal → Type 0
+Ran words told before now order None refusal = (order ≡ []) × Wrote words told before now refusal
+Ran words told before now order (Some s) refusal =
     (code : ThinCode) × Names told words (IsThinProgram code) × RanTo code order before now s
 
 -- the end of a run is the refusal's, where there is one
@@ -86,11 +121,11 @@ refusal_of stop.Done = None
 refusal_of stop.WriteFault = Some WriteFault
 refusal_of stop.NoMemory = Some NoMemory
 
--- a run was begun exactly where the files were read and are one thin file that is linked, want of
--- memory aside
-abbrev pub Agrees : Option Stop → Option Refusal → Type 0
-Agrees (Some s) refusal = refusal ≡ refusal_of s
-Agrees None refusal = (refusal ≢ None) × (refusal ≢ Some WriteFault)
+-- of words that don't ask to check files: a run was begun exactly where the files were read, are
+-- accepted and are one thin file, want of memory aside; a check begins none
+abbrev pub Agrees : List (List ℕ) → Option Stop → Option Refusal → Type 0
+Agrees words (Some s) refusal = ¬ IsCheck words × (refusal ≡ refusal_of s)
+Agrees words None refusal = IsCheck words ⊎ ((refusal ≢ None) × (refusal ≢ Some WriteFault))
 
 -- ---- standard error
 
@@ -101,24 +136,24 @@ IsClosed subject plain before now refusal =
     ⊎ ((refusal ≡ Some WriteFault) × Rose before.faults now.faults
     × GainsFront before.held now.held (report subject plain))
 
--- what a refusal of linking tells of the class files
-pub record IsLinkText (e : LinkErr) (text : List ℕ) (contents : List (Option (List ℕ)))
-    : Type 0 where
+-- what a refusal tells of the class files
+pub record IsToldText (e : Refusal) (text : List ℕ) (asked : Asked)
+    (contents : List (Option (List ℕ))) : Type 0 where
   pub classes : List ClassFile
   pub are : AreClassFiles contents classes
-  pub is : text ≡ link_text classes e
+  pub is : text ≡ told_text classes e
 
 -- the name of the file at the refusal's place
 abbrev pub IsNamed : List (List ℕ) → Refusal → List ℕ → Type 0
 IsNamed words e name =
-    (asked : Asked) (k : ℕ) → IsRun words asked → place_of e ≡ Some k
+    (asked : Asked) (k : ℕ) → IsCall words asked → place_of e ≡ Some k
     → name ≡ name_at asked.files k
 
 -- what the report of a refusal speaks of
 abbrev pub IsSubject : Option Files → List (List ℕ) → Option Refusal → List ℕ → Type 0
 IsSubject told words None subject = Unit {0}
-IsSubject told words (Some (Link e)) subject =
-    Names told words (λ main contents. IsLinkText e subject contents)
+IsSubject told words (Some (Link e)) subject = Names told words (IsToldText (Link e) subject)
+IsSubject told words (Some (Flow e)) subject = Names told words (IsToldText (Flow e) subject)
 IsSubject told words (Some e) subject = IsNamed words e subject
 
 -- a refusal with this cause, in accord with the run, was reported
@@ -127,7 +162,7 @@ pub record Reports (words : List (List ℕ)) (told : Option Files) (faults : Fau
   pub plain : Option Refusal
   pub subject : List ℕ
   pub cause : Because words told faults plain
-  pub agrees : Agrees stop plain
+  pub agrees : Agrees words stop plain
   pub spoken : IsSubject told words plain subject
   pub closed : IsClosed subject plain before now refusal
 

@@ -1,7 +1,9 @@
 -- Statuses and reports.
-use Rattle.std.specs.Prelude.{ℕ, codes, List, [], ◌∷◌, ◌++◌, slice_get, Option, Some, None}
+use Rattle.std.specs.Prelude.{ℕ, Bool, true, false, codes, decimal, filter, length, map, List, [], ◌∷◌, ◌++◌, slice_get, Option, Some, None}
+use Rattle.std.specs.List.{flat_map, sum_by}
 use Rattle.jvm_base.specs.Text.{text_bytes}
 use Rattle.jvm_base.specs.Words.{from}
+use Rattle.boot_table.specs.Files.{boot_files}
 use Rattle.class_format.specs.declared.class.ClassFile.{ClassFile}
 use Rattle.class_format.specs.declared.class.MethodItem.{MethodItem}
 use Rattle.class_names.specs.Classes.{this_name}
@@ -11,8 +13,10 @@ use Rattle.link_rules.specs.declared.error.LinkErr.TheVariants.{Code, Bad, NoMem
 use Rattle.link_rules.specs.Members.{method_name, method_desc}
 use Rattle.link_rules.specs.Reasons.{why_text}
 use Rattle.class_file.specs.Reasons.{reason}
+use Rattle.flow_verifier.specs.Reasons.{broken_rule_text}
+use Rattle.flow_verifier.specs.declared.answer.FlowErr.{FlowErr}
 use Rattle.one_jvm.specs.declared.outcome.Refusal.{Refusal}
-use Rattle.one_jvm.specs.declared.outcome.Refusal.TheVariants.{Usage, File, Link, NoFile, ReadFault, WriteFault, TooLong, NotYet}
+use Rattle.one_jvm.specs.declared.outcome.Refusal.TheVariants.{Usage, File, Link, Flow, NoFile, ReadFault, WriteFault, TooLong, NotYet}
 use Rattle.one_jvm.specs.declared.outcome.Refusal.TheVariants as refusals
 
 -- the exit status of a refusal; 0 where there is none
@@ -21,6 +25,7 @@ status_of None = 0
 status_of (Some Usage) = 2
 status_of (Some (File k why)) = 3
 status_of (Some (Link e)) = 3
+status_of (Some (Flow e)) = 3
 status_of (Some (NoFile k)) = 4
 status_of (Some (ReadFault k)) = 5
 status_of (Some WriteFault) = 6
@@ -36,7 +41,7 @@ place_of (ReadFault k) = Some k
 place_of (TooLong k) = Some k
 place_of _ = None
 
--- ---- what a refusal of linking tells
+-- ---- what is told of class files
 
 -- a text behind a space; an empty one has none
 abbrev pub behind_space : List ℕ → List ℕ
@@ -52,6 +57,14 @@ abbrev pub method_text : ℕ → ClassFile → List ℕ
 method_text method f =
     text_bytes (this_name f) ++ codes " " ++ from [] (member_text f) (slice_get f.methods method)
 
+-- a method with its class
+abbrev pub whole_text : ClassFile → MethodItem → List ℕ
+whole_text f m = text_bytes (this_name f) ++ codes " " ++ member_text f m
+
+-- each method of a class so
+abbrev pub method_texts : ClassFile → List (List ℕ)
+method_texts f = map (whole_text f) f.methods
+
 -- what is refused, and why; texts are written in modified UTF-8 (JVMS2 4.4.7)
 abbrev pub link_text : List ClassFile → LinkErr → List ℕ
 link_text classes (Code class method why) =
@@ -60,16 +73,44 @@ link_text classes (Bad why class other) =
     text_bytes class ++ codes " link " ++ why_text why ++ behind_space other
 link_text classes NoMemory = []
 
+-- the method without a typing, and the rule that it breaks; methods are numbered from those of the
+-- boot classes on
+abbrev pub flow_text : List ClassFile → FlowErr → List ℕ
+flow_text classes e =
+    from [] (λ text. text) (slice_get (flat_map method_texts (boot_files ++ classes)) e.method)
+    ++ codes " " ++ broken_rule_text e
+
+-- what a refusal tells of class files
+abbrev pub told_text : List ClassFile → Refusal → List ℕ
+told_text classes (Link e) = link_text classes e
+told_text classes (Flow e) = flow_text classes e
+told_text classes _ = []
+
+-- a method has code
+abbrev pub has_code : MethodItem → Bool
+has_code m = from false (λ c. true) m.code
+
+-- how many methods of a class have code
+abbrev pub coded_methods : ClassFile → ℕ
+coded_methods f = length (filter has_code f.methods)
+
+-- the line for accepted class files
+abbrev pub accepted_text : List ClassFile → List ℕ
+accepted_text classes =
+    codes "accepted " ++ decimal (length classes)
+    ++ (codes " classes " ++ decimal (sum_by coded_methods classes) ++ (codes " methods" ++ 10 ∷ []))
+
 -- ---- the report
 
 -- what is written to standard error; the subject is the name of the file at the refusal's place, or
--- what a refusal of linking tells
+-- what a refusal tells of class files
 abbrev pub report : List ℕ → Option Refusal → List ℕ
 report subject None = []
 report subject (Some Usage) = codes "cjvm: usage" ++ 10 ∷ []
 report subject (Some (File k why)) =
     codes "cjvm: refused " ++ subject ++ codes " " ++ (reason why ++ 10 ∷ [])
 report subject (Some (Link e)) = codes "cjvm: refused " ++ subject ++ 10 ∷ []
+report subject (Some (Flow e)) = codes "cjvm: refused " ++ subject ++ 10 ∷ []
 report subject (Some (NoFile k)) = codes "cjvm: no file " ++ subject ++ 10 ∷ []
 report subject (Some (ReadFault k)) = codes "cjvm: read fault " ++ subject ++ 10 ∷ []
 report subject (Some WriteFault) = codes "cjvm: write fault" ++ 10 ∷ []

@@ -12,11 +12,14 @@ use Rattle.class_file.specs.Refused.{IsRefused}
 use Rattle.class_names.specs.Classes.{this_name}
 use Rattle.link_rules.specs.declared.error.LinkErr.{LinkErr}
 use Rattle.class_link.specs.Refusals.{link_refusals}
+use Rattle.flow_verifier.specs.declared.answer.FlowErr.{FlowErr}
+use Rattle.acceptance.specs.Accepted as accepting
 use Rattle.thin_file.specs.declared.thin.ThinCode.{ThinCode}
 use Rattle.thin_file.specs.Thin.{IsThin}
 use Rattle.one_jvm.specs.declared.outcome.Refusal.{Refusal}
-use Rattle.one_jvm.specs.declared.outcome.Refusal.TheVariants.{Usage, File, Link, NoFile, ReadFault, WriteFault, TooLong, NotYet, NoMemory}
-use Rattle.one_jvm.specs.Words.{Asked, IsRun, IsNoRun}
+use Rattle.one_jvm.specs.declared.outcome.Refusal.TheVariants.{Usage, File, Link, Flow, NoFile, ReadFault, WriteFault, TooLong, NotYet, NoMemory}
+use Rattle.one_jvm.specs.declared.words.Command.TheVariants.{Run, Check}
+use Rattle.one_jvm.specs.Words.{Asked, IsCall, IsNoCall}
 
 -- a class file has at most 1,048,576 bytes
 abbrev pub limit : ℕ
@@ -82,18 +85,26 @@ abbrev pub main_of : Option (List ℕ) → List ClassFile → List ℕ
 main_of None classes = from [] this_name (slice_get classes 0)
 main_of (Some word) classes = class_word word
 
--- class files that are linked
-pub record AreLinked (main : Option (List ℕ)) (contents : List (Option (List ℕ))) : Type 0 where
+-- class files that are accepted: they are linked, and each method with code has a typing
+pub record AreAccepted (asked : Asked) (contents : List (Option (List ℕ))) : Type 0 where
   pub classes : List ClassFile
   pub are : AreClassFiles contents classes
-  pub links : link_refusals classes (main_of main classes) ≡ []
+  pub accepted : accepting.AreAccepted classes (main_of asked.main classes)
 
--- class files that aren't, and the first refusal that they have
-pub record AreRefused (e : LinkErr) (main : Option (List ℕ)) (contents : List (Option (List ℕ)))
+-- class files that aren't linked, and the first refusal that they have
+pub record AreRefused (e : LinkErr) (asked : Asked) (contents : List (Option (List ℕ)))
     : Type 0 where
   pub classes : List ClassFile
   pub are : AreClassFiles contents classes
-  pub first : slice_get (link_refusals classes (main_of main classes)) 0 ≡ Some e
+  pub first : slice_get (link_refusals classes (main_of asked.main classes)) 0 ≡ Some e
+
+-- class files that are linked, with a method that has no typing; the first such one, and the first
+-- rule that it breaks
+pub record AreUntyped (e : FlowErr) (asked : Asked) (contents : List (Option (List ℕ)))
+    : Type 0 where
+  pub classes : List ClassFile
+  pub are : AreClassFiles contents classes
+  pub untyped : accepting.AreUntyped e classes (main_of asked.main classes)
 
 -- one thin file alone, which has this program
 pub record IsThinFile (code : ThinCode) (contents : List (Option (List ℕ))) : Type 0 where
@@ -101,17 +112,23 @@ pub record IsThinFile (code : ThinCode) (contents : List (Option (List ℕ))) : 
   pub alone : contents ≡ Some bytes ∷ []
   pub thin : IsThin bytes code
 
--- it is linked
-pub record IsThinProgram (code : ThinCode) (main : Option (List ℕ))
-    (contents : List (Option (List ℕ))) : Type 0 where
-  pub linked : AreLinked main contents
+-- it is accepted, and to be run
+pub record IsThinProgram (code : ThinCode) (asked : Asked) (contents : List (Option (List ℕ)))
+    : Type 0 where
+  pub run : asked.command ≡ Run
+  pub accepted : AreAccepted asked contents
   pub file : IsThinFile code contents
 
--- linked files, but not one thin file alone
-pub record IsOtherProgram (main : Option (List ℕ)) (contents : List (Option (List ℕ)))
-    : Type 0 where
-  pub linked : AreLinked main contents
+-- accepted files that are to be run, but are not one thin file alone
+pub record IsOtherProgram (asked : Asked) (contents : List (Option (List ℕ))) : Type 0 where
+  pub run : asked.command ≡ Run
+  pub accepted : AreAccepted asked contents
   pub other : (code : ThinCode) → ¬ IsThinFile code contents
+
+-- accepted files that are to be checked alone
+pub record IsChecked (asked : Asked) (contents : List (Option (List ℕ))) : Type 0 where
+  pub check : asked.command ≡ Check
+  pub accepted : AreAccepted asked contents
 
 -- ---- what the files are to the words
 
@@ -120,18 +137,18 @@ abbrev pub AreUnder : Option Files → List (List ℕ) → List (Option (List �
 AreUnder None names contents = length contents ≡ length names
 AreUnder (Some fs) names contents = contents ≡ map (bytes_under fs) names
 
--- the words ask to run files, and what there is under their names has P, for this main class
+-- the words are a command's, and what there is under its files' names has P, for what is asked
 pub record Names (told : Option Files) (words : List (List ℕ))
-    (P : Option (List ℕ) → List (Option (List ℕ)) → Type 0) : Type 0 where
+    (P : Asked → List (Option (List ℕ)) → Type 0) : Type 0 where
   pub asked : Asked
-  pub is_run : IsRun words asked
+  pub is_call : IsCall words asked
   pub contents : List (Option (List ℕ))
   pub under : AreUnder told asked.files contents
-  pub such : P asked.main contents
+  pub such : P asked contents
 
 -- of the words' files that at the place k stops the reading, for P
 abbrev pub StopsFor : (Option (List ℕ) → Type 0) → ℕ → Option Files → List (List ℕ) → Type 0
-StopsFor P k told words = Names told words (λ main contents. StopsAt P k contents)
+StopsFor P k told words = Names told words (λ asked. StopsAt P k)
 
 -- a file isn't there
 abbrev pub LacksFile : Option Files → List (List ℕ) → Type 0
@@ -150,29 +167,43 @@ HasRefusedFile told words =
 abbrev pub HasUnlinkedFiles : Option Files → List (List ℕ) → Type 0
 HasUnlinkedFiles told words = (e : LinkErr) × Names told words (AreRefused e)
 
--- a file or the linking is refused
-abbrev pub IsRefusedCall : Option Files → List (List ℕ) → Type 0
-IsRefusedCall told words = HasRefusedFile told words ⊎ HasUnlinkedFiles told words
+-- a method of the files has no typing, whatever rule it breaks
+abbrev pub HasUntypedFiles : Option Files → List (List ℕ) → Type 0
+HasUntypedFiles told words = (e : FlowErr) × Names told words (AreUntyped e)
 
--- the files are linked, but not one thin file alone
+-- reading, linking or verifying is refused
+abbrev pub IsRefusedCall : Option Files → List (List ℕ) → Type 0
+IsRefusedCall told words =
+    HasRefusedFile told words ⊎ (HasUnlinkedFiles told words ⊎ HasUntypedFiles told words)
+
+-- the files are accepted and are to be run, but are not one thin file alone
 abbrev pub HasOtherFiles : Option Files → List (List ℕ) → Type 0
 HasOtherFiles told words = Names told words IsOtherProgram
 
--- one thin file, linked, whatever its program
+-- one thin file that is to be run, accepted, whatever its program
 abbrev pub HasThinFile : Option Files → List (List ℕ) → Type 0
 HasThinFile told words = (code : ThinCode) × Names told words (IsThinProgram code)
 
+-- the files are to be checked, and are accepted
+abbrev pub HasCheckedFiles : Option Files → List (List ℕ) → Type 0
+HasCheckedFiles told words = Names told words IsChecked
+
+-- what was asked can be done
+abbrev pub IsDoneCall : Option Files → List (List ℕ) → Type 0
+IsDoneCall told words = HasThinFile told words ⊎ HasCheckedFiles told words
+
 -- ---- the verdict
 
--- this is the verdict of the files and words: how the call is refused, or None where the program is
--- accepted; there is one at most (verdict_is_one)
+-- this is the verdict of the files and words: how the call is refused, or None where it isn't; there
+-- is one at most (verdict_is_one)
 abbrev pub IsVerdict : Option Files → List (List ℕ) → Option Refusal → Type 0
-IsVerdict told words None = HasThinFile told words
-IsVerdict told words (Some Usage) = IsNoRun words
+IsVerdict told words None = IsDoneCall told words
+IsVerdict told words (Some Usage) = IsNoCall words
 IsVerdict told words (Some (NoFile k)) = StopsFor IsMissing k told words
 IsVerdict told words (Some (TooLong k)) = StopsFor IsLong k told words
 IsVerdict told words (Some (File k why)) = StopsFor (IsRefusedFile why) k told words
 IsVerdict told words (Some (Link e)) = Names told words (AreRefused e)
+IsVerdict told words (Some (Flow e)) = Names told words (AreUntyped e)
 IsVerdict told words (Some NotYet) = HasOtherFiles told words
 IsVerdict told words (Some (ReadFault k)) = ⊥
 IsVerdict told words (Some WriteFault) = ⊥

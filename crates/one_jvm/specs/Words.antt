@@ -2,6 +2,8 @@
 use Rattle.std.specs.Prelude.{◌≡◌, ℕ, ◌<◌, ◌≤◌, Bool, false, ◌==◌, codes, map, string_bytes, String, List, [], ◌∷◌, ◌++◌, length, Option, Some, None, slice_get}
 use Rattle.std.specs.List.{list_any}
 use Rattle.jvm_base.specs.Words.{from}
+use Rattle.one_jvm.specs.declared.words.Command.{Command}
+use Rattle.one_jvm.specs.declared.words.Command.TheVariants.{Run, Check}
 
 -- the words as texts
 abbrev pub texts : {A : Type 0} → List (String A) → List (List ℕ)
@@ -16,8 +18,14 @@ is_option _ = false
 abbrev pub ArePlain : List (List ℕ) → Type 0
 ArePlain words = list_any is_option words ≡ false
 
--- what the words of a run ask for: the name of the main class, where they give it, and the files
+-- the word of a command
+abbrev pub command_word : Command → List ℕ
+command_word Run = codes "run"
+command_word Check = codes "check"
+
+-- what the words ask for: what to do, the name of the main class, where they give it, and the files
 pub record Asked : Type 0 where
+  pub command : Command
   pub main : Option (List ℕ)
   pub files : List (List ℕ)
 
@@ -34,22 +42,26 @@ abbrev pub IsSpelled : Option (List ℕ) → List (List ℕ) → List (List ℕ)
 IsSpelled None files words = words ≡ files
 IsSpelled (Some main) files words = IsMixed main files words
 
--- `run`, and 1 to 1,024 files behind it, among which the option may stand
-pub record IsRun (words : List (List ℕ)) (asked : Asked) : Type 0 where
+-- a command, and 1 to 1,024 files behind it, among which the option may stand
+pub record IsCall (words : List (List ℕ)) (asked : Asked) : Type 0 where
   pub rest : List (List ℕ)
-  pub command : words ≡ codes "run" ∷ rest
+  pub command : words ≡ command_word asked.command ∷ rest
   pub spelled : IsSpelled asked.main asked.files rest
   pub plain : ArePlain asked.files
   pub some : 0 < length asked.files
   pub few : length asked.files ≤ 1024
 
--- the words ask to run files
-abbrev pub IsSomeRun : List (List ℕ) → Type 0
-IsSomeRun words = (asked : Asked) × IsRun words asked
+-- the words are some command's
+abbrev pub IsSomeCall : List (List ℕ) → Type 0
+IsSomeCall words = (asked : Asked) × IsCall words asked
+
+-- the words ask to check files
+abbrev pub IsCheck : List (List ℕ) → Type 0
+IsCheck words = (asked : Asked) × IsCall words asked × (asked.command ≡ Check)
 
 -- the words are no command
-abbrev pub IsNoRun : List (List ℕ) → Type 0
-IsNoRun words = (asked : Asked) → ¬ IsRun words asked
+abbrev pub IsNoCall : List (List ℕ) → Type 0
+IsNoCall words = (asked : Asked) → ¬ IsCall words asked
 
 -- the name at a place; empty past the end
 abbrev pub name_at : List (List ℕ) → ℕ → List ℕ

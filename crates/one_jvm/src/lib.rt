@@ -10,6 +10,7 @@ mod process;
 mod report;
 mod running;
 mod top;
+mod verify_text;
 mod words;
 
 pub use laws::verdict_is_one;

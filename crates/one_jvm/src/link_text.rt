@@ -5,7 +5,7 @@ ghost use Rattle.jvm_base.specs.Text.{text_bytes};
 ghost use Rattle.jvm_base.specs.Words.{from};
 ghost use Rattle.code_table.specs.Reasons.{reason};
 ghost use Rattle.link_rules.specs.Reasons.{why_text};
-ghost use Rattle.one_jvm.specs.Outcomes.{behind_space, member_text, method_text, link_text};
+ghost use Rattle.one_jvm.specs.Outcomes.{behind_space, member_text, method_text, whole_text, link_text};
 
 use class_format::{ClassFile, MethodItem};
 use class_names::{text, this_name};
@@ -36,6 +36,20 @@ fn push_member(
     let pool = class.pool.as_slice();
     push_text(alloc, bytes, text(pool, method.name))?;
     push_text(alloc, bytes, text(pool, method.desc))
+}
+
+/// Adds the name of a class, and one of its methods.
+pub(crate) fn push_whole(
+    alloc: Global,
+    bytes: &mut Vec<u8>,
+    class: &ClassFile,
+    method: &MethodItem,
+) -> Result<(), NoMemory>
+    ensures { OnOk result (bytes.new.items ≡ bytes.old.items ++ whole_text class.now method.now) }
+{
+    push_text(alloc, bytes, this_name(class))?;
+    bytes.extend_from_slice(b" ")?;
+    push_member(alloc, bytes, class, method)
 }
 
 /// Adds the name of a class, and its method at a place.

@@ -3,18 +3,18 @@
 ghost use Rattle.std.specs.Prelude.{◌≡◌, ◌≤◌, [], length, All, MatchResult};
 ghost use Rattle.class_format.specs.Meaning.{IsClass, Spells};
 ghost use Rattle.one_jvm.specs.Steps.Parts.{asked_by};
-ghost use Rattle.one_jvm.specs.Steps.Loading.{RefusesBytes, ReadsFile, Loads, refusals_of, IsUnlinked, IsOneThin, IsNotThin, IsAccepted, IsNotRun, IsTold, Programs};
+ghost use Rattle.one_jvm.specs.Steps.Loading.{RefusesBytes, ReadsFile, Loads, IsFine, IsUnfit, IsOneThin, IsNotThin, IsTask, HasNoTask, IsSet, IsNotSet, IsTold, Programs};
 
 use crate::link_text::link_text;
 use crate::main_class::main_of;
 use crate::outcome::Refusal;
-use crate::words::Request;
+use crate::verify_text::{accepted_text, flow_text};
+use crate::words::{Command, Request};
+use acceptance::{Rejection, accept};
 use cjvm_io::{Shelf, ShelfErr};
 use class_file::{ClassErr, read_class};
 use class_format::ClassFile;
-use class_link::check;
-use jvm_base::List;
-use link_rules::LinkErr;
+use jvm_base::{List, NoMemory};
 use std::alloc::Global;
 use thin_file::{ThinCode, ThinErr, read_thin};
 
@@ -28,7 +28,14 @@ struct Loaded {
     bytes: Vec<u8>,
 }
 
-/// A refusal, and what it tells of linking.
+/// What is to be done with accepted files: their program is run, or a line says that they are accepted.
+#[derive(Drop)]
+pub(crate) enum Task {
+    Run(ThinCode),
+    Tell(Vec<u8>),
+}
+
+/// A refusal, and what it tells of class files.
 #[derive(Drop)]
 pub(crate) struct Refused {
     pub(crate) refusal: Refusal,
@@ -99,24 +106,29 @@ fn load<S: Shelf>(alloc: Global, shelf: &mut S, request: &Request<'_>) -> Result
     })
 }
 
-/// Whether class files are linked, and the first refusal that they have otherwise.
-fn link(alloc: Global, request: &Request<'_>, classes: &List<ClassFile>) -> Result<(), Refusal>
+/// Whether class files are accepted, and the first refusal that they have otherwise.
+fn accept_classes(
+    alloc: Global,
+    request: &Request<'_>,
+    classes: &List<ClassFile>,
+) -> Result<(), Refusal>
     requires few { length classes.now ≤ 1024 }
     requires formed { All IsClass classes.now }
-    ensures { MatchResult result (λ _. refusals_of (asked_by request.now) classes.now ≡ [])
-        (IsUnlinked (refusals_of (asked_by request.now) classes.now)) }
+    ensures { MatchResult result (λ _. IsFine (asked_by request.now) classes.now)
+        (IsUnfit (asked_by request.now) classes.now) }
 {
     let Ok(main) = main_of(alloc, request, classes.as_slice()) else {
         return Err(Refusal::NoMemory);
     };
-    match check(alloc, classes, &main) {
-        Ok(()) => Ok(()),
-        Err(LinkErr::NoMemory) => Err(Refusal::NoMemory),
-        Err(why) => Err(Refusal::Link(why)),
+    match accept(alloc, classes, &main) {
+        Ok(_) => Ok(()),
+        Err(Rejection::Link(why)) => Err(Refusal::Link(why)),
+        Err(Rejection::Flow(why)) => Err(Refusal::Flow(why)),
+        Err(Rejection::NoMemory) => Err(Refusal::NoMemory),
     }
 }
 
-/// The program of linked files, of which the last has these bytes; none where there isn't one thin
+/// The program of accepted files, of which the last has these bytes; none where there isn't one thin
 /// file.
 fn thin_code(alloc: Global, request: &Request<'_>, bytes: &[u8]) -> Result<ThinCode, Refusal>
     ensures { MatchResult result (IsOneThin (asked_by request.now) bytes.now)
@@ -132,18 +144,33 @@ fn thin_code(alloc: Global, request: &Request<'_>, bytes: &[u8]) -> Result<ThinC
     }
 }
 
-/// The program of class files, or why they aren't run.
-fn accept(alloc: Global, request: &Request<'_>, loaded: &Loaded) -> Result<ThinCode, Refusal>
+/// What is to be done with accepted files.
+fn task_of(alloc: Global, request: &Request<'_>, loaded: &Loaded) -> Result<Task, Refusal>
     requires few { length loaded.now.classes ≤ 1024 }
-    requires formed { All IsClass loaded.now.classes }
-    ensures { MatchResult result (IsAccepted (asked_by request.now) loaded.now)
-        (IsNotRun (asked_by request.now) loaded.now) }
+    ensures { MatchResult result (IsTask (asked_by request.now) loaded.now)
+        (HasNoTask (asked_by request.now) loaded.now) }
 {
-    link(alloc, request, &loaded.classes)?;
-    thin_code(alloc, request, loaded.bytes.as_slice())
+    match request.command() {
+        Command::Run => Ok(Task::Run(thin_code(alloc, request, loaded.bytes.as_slice())?)),
+        Command::Check => match accepted_text(alloc, loaded.classes.as_slice()) {
+            Ok(text) => Ok(Task::Tell(text)),
+            Err(_) => Err(Refusal::NoMemory),
+        },
+    }
 }
 
-/// A refusal that tells nothing of linking.
+/// What is to be done with class files, or why it isn't done.
+fn accepted_task(alloc: Global, request: &Request<'_>, loaded: &Loaded) -> Result<Task, Refusal>
+    requires few { length loaded.now.classes ≤ 1024 }
+    requires formed { All IsClass loaded.now.classes }
+    ensures { MatchResult result (IsSet (asked_by request.now) loaded.now)
+        (IsNotSet (asked_by request.now) loaded.now) }
+{
+    accept_classes(alloc, request, &loaded.classes)?;
+    task_of(alloc, request, loaded)
+}
+
+/// A refusal that tells nothing of class files.
 fn untold(alloc: Global, refusal: Refusal) -> Refused
     ensures { result.refusal ≡ refusal }
 {
@@ -153,25 +180,36 @@ fn untold(alloc: Global, refusal: Refusal) -> Refused
     }
 }
 
-/// A refusal of some classes, with what it tells of them.
-fn tell(alloc: Global, classes: &[ClassFile], refusal: Refusal) -> Refused
-    ensures { IsTold classes.now refusal result }
+/// A refusal with its text, where memory lasted for it.
+fn with_text(alloc: Global, refusal: Refusal, text: Result<Vec<u8>, NoMemory>) -> Refused
+    ensures { MatchResult text
+        (λ t. (result.refusal ≡ refusal) × (result.text.items ≡ t.items))
+        (λ _. result.refusal ≡ Refusal.NoMemory) }
 {
-    let Refusal::Link(why) = &refusal else {
-        return untold(alloc, refusal);
-    };
-    match link_text(alloc, classes, why) {
+    match text {
         Ok(text) => Refused { refusal, text },
         Err(_) => untold(alloc, Refusal::NoMemory),
     }
 }
 
-/// The program of a call's files, or why it isn't run.
-pub(crate) fn program<S: Shelf>(
+/// A refusal of some classes, with what it tells of them.
+fn tell(alloc: Global, classes: &[ClassFile], refusal: Refusal) -> Refused
+    ensures { IsTold classes.now refusal result }
+{
+    let text = match &refusal {
+        Refusal::Link(why) => link_text(alloc, classes, why),
+        Refusal::Flow(why) => flow_text(alloc, classes, *why),
+        _ => return untold(alloc, refusal),
+    };
+    with_text(alloc, refusal, text)
+}
+
+/// What is to be done with a call's files, or why it isn't done.
+pub(crate) fn find_task<S: Shelf>(
     alloc: Global,
     shelf: &mut S,
     request: &Request<'_>,
-) -> Result<ThinCode, Refused>
+) -> Result<Task, Refused>
     requires few { length (asked_by request.now).files ≤ 1024 }
     ensures files { S.files shelf.new ≡ S.files shelf.old }
     ensures later { S.faults shelf.old ≤ S.faults shelf.new }
@@ -182,8 +220,8 @@ pub(crate) fn program<S: Shelf>(
         Ok(loaded) => loaded,
         Err(refusal) => return Err(untold(alloc, refusal)),
     };
-    match accept(alloc, request, &loaded) {
-        Ok(code) => Ok(code),
+    match accepted_task(alloc, request, &loaded) {
+        Ok(task) => Ok(task),
         Err(refusal) => Err(tell(alloc, loaded.classes.as_slice(), refusal)),
     }
 }

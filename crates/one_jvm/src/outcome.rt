@@ -4,6 +4,7 @@ ghost use Rattle.std.specs.Prelude.{◌≡◌};
 ghost use Rattle.one_jvm.specs.Outcomes.{place_of, status_of};
 
 use class_file::ClassErr;
+use flow_verifier::FlowErr;
 use link_rules::LinkErr;
 use one_machine::Order;
 use thiserror::Error;
@@ -30,6 +31,10 @@ pub enum Refusal {
     /// The files aren't linked, and why. Status 3.
     #[error("refused {0}")]
     Link(LinkErr),
+    /// The files are linked, but a method of theirs has no typing: the first such method, by its
+    /// number in the linked program, and the first rule that it breaks. Status 3.
+    #[error("refused {0}")]
+    Flow(FlowErr),
     /// There is no such file. Status 4.
     #[error("no file")]
     NoFile(u32),
@@ -42,7 +47,7 @@ pub enum Refusal {
     /// A file is longer than a class file may be. Status 11.
     #[error("file too long")]
     TooLong(u32),
-    /// The files are linked, but they aren't run yet. Status 14.
+    /// The files are accepted, but they aren't run yet. Status 14.
     #[error("not yet")]
     NotYet,
     /// No memory was left. Status 20.
@@ -80,7 +85,7 @@ pub(crate) fn status_of(refusal: &Option<Refusal>) -> u8
     match refusal {
         None => 0,
         Some(Refusal::Usage) => 2,
-        Some(Refusal::File { .. } | Refusal::Link(_)) => 3,
+        Some(Refusal::File { .. } | Refusal::Link(_) | Refusal::Flow(_)) => 3,
         Some(Refusal::NoFile(_)) => 4,
         Some(Refusal::ReadFault(_)) => 5,
         Some(Refusal::WriteFault) => 6,

@@ -103,7 +103,7 @@ fn write_refused<E: Sink>(err: &mut E, name: &[u8], why: ClassErr) -> Result<(),
     write_why(err, why)
 }
 
-/// Writes the report of a refusal, by the name of its file or by what it tells of linking.
+/// Writes the report of a refusal, by the name of its file or by what it tells of class files.
 pub(crate) fn write_refusal<E: Sink>(
     err: &mut E,
     subject: &[u8],
@@ -116,7 +116,7 @@ pub(crate) fn write_refusal<E: Sink>(
     match refusal {
         Refusal::Usage => write_all(err, b"cjvm: usage\n"),
         Refusal::File { why, .. } => write_refused(err, subject, *why),
-        Refusal::Link(_) => write_line(err, b"cjvm: refused ", subject),
+        Refusal::Link(_) | Refusal::Flow(_) => write_line(err, b"cjvm: refused ", subject),
         Refusal::NoFile(_) => write_line(err, b"cjvm: no file ", subject),
         Refusal::ReadFault(_) => write_line(err, b"cjvm: read fault ", subject),
         Refusal::WriteFault => write_all(err, b"cjvm: write fault\n"),

@@ -1,24 +1,28 @@
 //! The top call.
 
-ghost use Rattle.std.specs.Prelude.{◌≡◌, ◌≤◌, ◌↔◌, ◌⊎◌, [], ◌∷◌, Some, None};
+ghost use Rattle.std.specs.Prelude.{◌≡◌, ◌≢◌, ◌≤◌, ◌↔◌, ◌⊎◌, [], ◌∷◌, Some, None};
 ghost use Rattle.cjvm_io.specs.Faults.{Rose};
 ghost use Rattle.cjvm_io.specs.Sinks.{shown};
-ghost use Rattle.one_jvm.specs.Words.{IsNoRun, texts};
-ghost use Rattle.one_jvm.specs.Verdicts.{LacksFile, HasLongFile, HasOtherFiles, IsRefusedCall, HasThinFile};
+ghost use Rattle.one_jvm.specs.Words.{IsNoCall, IsCheck, texts};
+ghost use Rattle.one_jvm.specs.Verdicts.{LacksFile, HasLongFile, HasOtherFiles, IsRefusedCall, IsDoneCall};
 ghost use Rattle.one_jvm.specs.Outcomes.{status_of};
-ghost use Rattle.one_jvm.specs.Answers.{Because, Ran, Agrees, the_faults, refusal_of, Exactly, Answers, IsClosed, Reports};
+ghost use Rattle.one_jvm.specs.Answers.{Because, Ran, Agrees, IsUnwritten, Says, the_faults, refusal_of, Exactly, Answers, IsClosed, Reports};
+ghost use Rattle.one_jvm.specs.Runs.{RanTo};
 ghost use Rattle.one_jvm.specs.Steps.Speaking.{IsToldOf, Speaks};
+ghost use Rattle.one_jvm.specs.declared.outcome.Stop.{Stop};
+ghost use Rattle.thin_file.specs.Thin.{IsThinCode};
 
-use crate::loading::program;
+use crate::loading::{Task, find_task};
 use crate::outcome::{Outcome, Refusal, Stop, status_of};
 use crate::report::write_refusal;
 use crate::running::run_program;
 use crate::words::{name_of, read_words};
-use cjvm_io::{Failed, Shelf, Sink};
+use cjvm_io::{Failed, Shelf, Sink, write_all};
 use one_machine::Order;
 use std::alloc::Global;
+use thin_file::ThinCode;
 
-/// What a call answers, faults of standard error aside, and what its refusal tells of linking.
+/// What a call answers, faults of standard error aside, and what its refusal tells of class files.
 #[derive(Drop)]
 struct Verdict {
     order: Order,
@@ -50,45 +54,74 @@ fn refused(alloc: Global, refusal: Refusal, text: Vec<u8>) -> Verdict
     }
 }
 
-/// Reads the words and the files, and runs the program.
+/// Runs a program.
+fn run<O: Sink>(alloc: Global, code: &ThinCode, out: &mut O) -> Verdict
+    requires { IsThinCode code.now }
+    ensures ran { (s : Stop) × (result.stop ≡ Some s) × (result.refusal ≡ refusal_of s)
+        × RanTo code.now result.order (shown O.held O.faults out.old)
+        (shown O.held O.faults out.new) s }
+    ensures later { O.faults out.old ≤ O.faults out.new }
+{
+    let (order, stop) = run_program(alloc, code, out);
+    Verdict {
+        order,
+        stop: Some(stop),
+        refusal: refusal_of(stop),
+        text: Vec::new(alloc),
+    }
+}
+
+/// Says that the files are accepted, by this line.
+fn say<O: Sink>(alloc: Global, line: &[u8], out: &mut O) -> Verdict
+    ensures no_run { (result.stop ≡ None) × (result.order ≡ []) }
+    ensures said { Says line.now (shown O.held O.faults out.old) (shown O.held O.faults out.new)
+        result.refusal }
+    ensures later { O.faults out.old ≤ O.faults out.new }
+{
+    let refusal = match write_all(out, line) {
+        Ok(()) => None,
+        Err(Failed) => Some(Refusal::WriteFault),
+    };
+    Verdict {
+        order: Order::new(alloc),
+        stop: None,
+        refusal,
+        text: Vec::new(alloc),
+    }
+}
+
+/// Reads the words and the files, and runs the program or says that the files are accepted.
 fn judge<S: Shelf, O: Sink>(alloc: Global, words: &[String], shelf: &mut S, out: &mut O) -> Verdict
     ensures cause { Because (texts words.now) (S.files shelf.old)
         (the_faults (S.faults shelf.old) (S.faults shelf.new) (O.faults out.old) (O.faults out.new))
         result.refusal }
     ensures run { Ran (texts words.now) (S.files shelf.old) (shown O.held O.faults out.old)
-        (shown O.held O.faults out.new) result.order result.stop }
-    ensures agrees { Agrees result.stop result.refusal }
+        (shown O.held O.faults out.new) result.order result.stop result.refusal }
+    ensures agrees { Agrees (texts words.now) result.stop result.refusal }
     ensures tells { IsToldOf (S.files shelf.old) (texts words.now) result.refusal result.text.items }
     ensures files { S.files shelf.new ≡ S.files shelf.old }
     ensures read_faults { S.faults shelf.old ≤ S.faults shelf.new }
     ensures out_faults { O.faults out.old ≤ O.faults out.new }
-    ensures no_read { IsNoRun (texts words.now) → shelf.new ≡ shelf.old }
-    ensures no_run { result.stop ≡ None → out.new ≡ out.old }
+    ensures no_read { IsNoCall (texts words.now) → shelf.new ≡ shelf.old }
+    ensures no_run { IsUnwritten (texts words.now) result.stop result.refusal → out.new ≡ out.old }
 {
     let Some(request) = read_words(words) else {
         return refused(alloc, Refusal::Usage, Vec::new(alloc));
     };
-    match program(alloc, shelf, &request) {
-        Ok(code) => {
-            let (order, stop) = run_program(alloc, &code, out);
-            Verdict {
-                order,
-                stop: Some(stop),
-                refusal: refusal_of(stop),
-                text: Vec::new(alloc),
-            }
-        }
+    match find_task(alloc, shelf, &request) {
+        Ok(Task::Run(code)) => run(alloc, &code, out),
+        Ok(Task::Tell(line)) => say(alloc, line.as_slice(), out),
         Err(why) => refused(alloc, why.refusal, why.text),
     }
 }
 
-/// What the report of a refusal speaks of: the name of its file, or what it tells of linking.
+/// What the report of a refusal speaks of: the name of its file, or what it tells of class files.
 fn subject_of<'a>(words: &'a [String], refusal: &Option<Refusal>, text: &'a [u8]) -> &'a [u8]
     ensures { Speaks (texts words.now) refusal.now text.now result.now }
 {
     match refusal {
         None => b"",
-        Some(Refusal::Link(_)) => text,
+        Some(Refusal::Link(_) | Refusal::Flow(_)) => text,
         Some(refusal) => name_of(words, refusal).as_bytes(),
     }
 }
@@ -108,10 +141,11 @@ fn close<E: Sink>(err: &mut E, subject: &[u8], refusal: Option<Refusal>) -> Opti
     }
 }
 
-/// Does what the words say: `run FILE..` reads class files from the shelf and runs their program. Its
-/// output goes to `out` burst by burst; at the end `err` gets a report, which is empty where the
-/// status is 0. `words` are those after the program's name. What a shelf or a sink holds is claimed
-/// only where it tells it.
+/// Does what the words say. `run [--main C] FILE..` reads class files from the shelf and runs their
+/// program; its output goes to `out` burst by burst. `check [--main C] FILE..` accepts or refuses them
+/// in the same way, and says in `out` that they are accepted. At the end `err` gets a report, which is
+/// empty where the status is 0. `words` are those after the program's name. What a shelf or a sink
+/// holds is claimed only where it tells it.
 pub fn cjvm<S: Shelf, O: Sink, E: Sink>(
     alloc: Global,
     words: &[String],
@@ -122,20 +156,23 @@ pub fn cjvm<S: Shelf, O: Sink, E: Sink>(
     ensures status { result.status ≡ status_of result.refusal }
 
     // Each status comes exactly with its cause, faults and want of memory aside.
-    ensures usage { Exactly result.status 2 (6 ∷ []) (IsNoRun (texts words.now)) }
+    ensures usage { Exactly result.status 2 (6 ∷ []) (IsNoCall (texts words.now)) }
     ensures refused { Answers (S.files shelf.old) (texts words.now) result.status 3 IsRefusedCall }
     ensures no_file { Answers (S.files shelf.old) (texts words.now) result.status 4 LacksFile }
     ensures too_long { Answers (S.files shelf.old) (texts words.now) result.status 11 HasLongFile }
     ensures not_yet { Answers (S.files shelf.old) (texts words.now) result.status 14 HasOtherFiles }
-    ensures ended { Answers (S.files shelf.old) (texts words.now) result.status 0 HasThinFile }
+    ensures ended { Answers (S.files shelf.old) (texts words.now) result.status 0 IsDoneCall }
     ensures read_fault { result.status ≡ 5 → Rose (S.faults shelf.old) (S.faults shelf.new) }
     ensures write_fault { result.status ≡ 6 → Rose (O.faults out.old) (O.faults out.new)
         ⊎ Rose (E.faults err.old) (E.faults err.new) }
 
-    // The order is a legal one of the files' program and whole, and `out` gained its output.
-    ensures done { (result.status ≡ 0) ↔ (result.stop ≡ Some Stop.Done) }
+    // The order is a legal one of the files' program and whole, and `out` gained its output; or no run
+    // was begun, and `out` gained the line of accepted files, or nothing.
+    ensures done { ¬ IsCheck (texts words.now)
+        → (result.status ≡ 0) ↔ (result.stop ≡ Some Stop.Done) }
+    ensures checked { IsCheck (texts words.now) → result.stop ≡ None }
     ensures run { Ran (texts words.now) (S.files shelf.old) (shown O.held O.faults out.old)
-        (shown O.held O.faults out.new) result.order result.stop }
+        (shown O.held O.faults out.new) result.order result.stop result.refusal }
 
     // `err` gained the report of what was refused, or a front of it where a write to it failed.
     ensures report { Reports (texts words.now) (S.files shelf.old)
@@ -147,8 +184,8 @@ pub fn cjvm<S: Shelf, O: Sink, E: Sink>(
     ensures read_faults { S.faults shelf.old ≤ S.faults shelf.new }
     ensures out_faults { O.faults out.old ≤ O.faults out.new }
     ensures err_faults { E.faults err.old ≤ E.faults err.new }
-    ensures no_read { IsNoRun (texts words.now) → shelf.new ≡ shelf.old }
-    ensures no_run { result.stop ≡ None → out.new ≡ out.old }
+    ensures no_read { IsNoCall (texts words.now) → shelf.new ≡ shelf.old }
+    ensures no_run { IsUnwritten (texts words.now) result.stop result.refusal → out.new ≡ out.old }
     ensures no_report { result.status ≡ 0 → err.new ≡ err.old }
 {
     let verdict = judge(alloc, words, shelf, out);

@@ -1,8 +1,8 @@
 //! The words of a call.
 
 ghost use Rattle.std.specs.Prelude.{◌≡◌, ◌↔◌, ◌++◌, IsTrue, length, MatchOption, option_map};
-ghost use Rattle.one_jvm.specs.Words.{is_option, ArePlain, IsRun, IsNoRun, name_at, texts};
-ghost use Rattle.one_jvm.specs.Steps.Parts.{Begins, IsOption, IsNoOption, IsUnread, IsReading, asked_by};
+ghost use Rattle.one_jvm.specs.Words.{is_option, command_word, ArePlain, IsCall, IsNoCall, name_at, texts};
+ghost use Rattle.one_jvm.specs.Steps.Parts.{Begins, IsNoCommand, IsOption, IsNoOption, IsUnread, IsReading, asked_by};
 ghost use Rattle.one_jvm.specs.Answers.{IsNamed};
 
 use crate::outcome::{Refusal, place_of};
@@ -13,16 +13,31 @@ const MAIN: &str = "--main";
 /// How many files a call may name.
 const MOST_FILES: usize = 1024;
 
-/// What the words of a run ask for: files, in two parts between which the option may stand, and the
-/// main class, where they name it.
+/// What a call does with its files: it runs their program, or says whether it is accepted.
+#[derive(Clone, Copy, PartialEq, Eq)]
+pub(crate) enum Command {
+    Run,
+    Check,
+}
+
+/// What the words of a call ask for: a command, files, in two parts between which the option may
+/// stand, and the main class, where they name it.
 #[derive(Clone, Copy)]
 pub(crate) struct Request<'a> {
+    command: Command,
     before: &'a [String],
     main: Option<&'a str>,
     after: &'a [String],
 }
 
 impl<'a> Request<'a> {
+    /// What is to be done with the files.
+    pub(crate) fn command(&self) -> Command
+        ensures { result ≡ (asked_by self.now).command }
+    {
+        self.command
+    }
+
     /// The value of the option, where it is there.
     pub(crate) fn main(&self) -> Option<&'a str>
         ensures { option_map (λ m. m.now) result ≡ (asked_by self.now).main }
@@ -93,14 +108,28 @@ fn read_option(words: &[String]) -> Option<(&str, &[String])>
     }
 }
 
-/// What the words behind the command ask for, however many files they name.
-fn read_rest(rest: &[String]) -> Option<Request<'_>>
-    ensures { MatchOption result (IsUnread (texts rest.now))
-        (λ r. IsReading (texts rest.now) (asked_by r)) }
+/// The command of a word.
+fn read_command(word: &str) -> Option<Command>
+    ensures { MatchOption result (IsNoCommand word.now) (λ c. word.now ≡ command_word c) }
+{
+    if word == "run" {
+        Some(Command::Run)
+    } else if word == "check" {
+        Some(Command::Check)
+    } else {
+        None
+    }
+}
+
+/// What the words behind a command ask for, however many files they name.
+fn read_rest(command: Command, rest: &[String]) -> Option<Request<'_>>
+    ensures { MatchOption result (IsUnread command (texts rest.now))
+        (λ r. IsReading command (texts rest.now) (asked_by r)) }
 {
     let (before, behind) = split(rest);
     if behind.is_empty() {
         return Some(Request {
+            command,
             before,
             main: None,
             after: behind,
@@ -108,22 +137,21 @@ fn read_rest(rest: &[String]) -> Option<Request<'_>>
     }
     let (main, after) = read_option(behind)?;
     Some(Request {
+        command,
         before,
         main: Some(main),
         after,
     })
 }
 
-/// What the words of `run` ask for.
+/// What the words of a command ask for.
 pub(crate) fn read_words(words: &[String]) -> Option<Request<'_>>
-    ensures { MatchOption result (IsNoRun (texts words.now))
-        (λ r. IsRun (texts words.now) (asked_by r)) }
+    ensures { MatchOption result (IsNoCall (texts words.now))
+        (λ r. IsCall (texts words.now) (asked_by r)) }
 {
     let (command, rest) = words.split_first()?;
-    if command.as_str() != "run" {
-        return None;
-    }
-    let request = read_rest(rest)?;
+    let command = read_command(command.as_str())?;
+    let request = read_rest(command, rest)?;
     if (1..=MOST_FILES).contains(&request.count()) {
         Some(request)
     } else {

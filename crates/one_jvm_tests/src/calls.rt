@@ -1,83 +1,10 @@
 //! Calls over memory: what they answer, and what the streams hold.
 
-use cjvm_io::{MemShelf, VecSink};
-use one_jvm::{Outcome, Stop, cjvm, without_words};
+use crate::files::{Fails, NO_FAILS, TAIL, call, changed_file, file_of};
+use cjvm_io::VecSink;
+use one_jvm::{Stop, without_words};
 use std::alloc::{AllocError, Global};
 use std::test::Fail;
-
-/// The class A, up to the length of its code's attribute: it prints 2 + 3.
-const HEAD: &[u8; 214] =
-    b"\xca\xfe\xba\xbe\x00\x00\x00.\x00\x14\x01\x00\x01A\x07\x00\x01\x01\x00\x10java/lang/\
-    Object\x07\x00\x03\x01\x00\x04main\x01\x00\x16([Ljava/lang/String;)V\x01\x00\x04Code\
-    \x01\x00\x10java/lang/System\x07\x00\x08\x01\x00\x03out\x01\x00\x15Ljava/io/PrintStr\
-    eam;\x0c\x00\x0a\x00\x0b\x09\x00\x09\x00\x0c\x01\x00\x13java/io/PrintStream\x07\x00\
-    \x0e\x01\x00\x07println\x01\x00\x04(I)V\x0c\x00\x10\x00\x11\x0a\x00\x0f\x00\x12\x00!\
-    \x00\x02\x00\x04\x00\x00\x00\x00\x00\x01\x00\x09\x00\x05\x00\x06\x00\x01\x00\x07";
-
-/// What follows.
-const TAIL: &[u8; 28] =
-    b"\x00\x00\x00\x16\x00\x03\x00\x01\x00\x00\x00\x0a\xb2\x00\x0d\x05\x06`\xb6\x00\x13\xb1\
-    \x00\x00\x00\x00\x00\x00";
-
-/// What a call left.
-#[derive(Drop)]
-struct Left {
-    outcome: Outcome,
-    out: Vec<u8>,
-    err: Vec<u8>,
-}
-
-/// The calls that fail, by number, of the shelf, of standard output and of standard error.
-#[derive(Clone, Copy)]
-struct Fails {
-    shelf: u64,
-    out: u64,
-    err: u64,
-}
-
-const NO_FAILS: Fails = Fails {
-    shelf: 0,
-    out: 0,
-    err: 0,
-};
-
-fn file_of(alloc: Global, tail: &[u8]) -> Result<Vec<u8>, AllocError> {
-    let mut file = Vec::from_slice(alloc, HEAD.as_slice())?;
-    file.extend_from_slice(tail)?;
-    Ok(file)
-}
-
-/// A.class with another byte at a place.
-fn changed_file(alloc: Global, at: usize, byte: u8) -> Result<Vec<u8>, AllocError> {
-    let mut file = file_of(alloc, TAIL.as_slice())?;
-    if let Some(place) = file.get_mut(at) {
-        *place = byte;
-    }
-    Ok(file)
-}
-
-/// Calls with these words, where the shelf has a file A.class, and the class B in B.class.
-fn call(alloc: Global, words: &[&str], file: Vec<u8>, fails: Fails) -> Result<Left, Fail> {
-    let mut texts = Vec::new(alloc);
-    for word in words {
-        texts.push(String::from_str(alloc, word)?)?;
-    }
-    let mut files = Vec::new(alloc);
-    files.push((String::from_str(alloc, "A.class")?, file))?;
-    files.push((
-        String::from_str(alloc, "B.class")?,
-        changed_file(alloc, 13, b'B')?,
-    ))?;
-    let mut shelf = MemShelf::new(files, Vec::from_slice(alloc, &[fails.shelf])?);
-    let mut out = VecSink::new(alloc, 1000, 3, Vec::from_slice(alloc, &[fails.out])?)?;
-    let mut err = VecSink::new(alloc, 1000, 5, Vec::from_slice(alloc, &[fails.err])?)?;
-    let outcome = cjvm(alloc, texts.as_slice(), &mut shelf, &mut out, &mut err);
-    Ok(Left {
-        outcome,
-        out: Vec::from_slice(alloc, out.bytes())?,
-        err: Vec::from_slice(alloc, err.bytes())?,
-    })
-}
 
 /// Words, another byte at a place of A.class, and the status and the report.
 type Row<'a> = (&'a [&'a str], usize, u8, u8, &'a [u8]);
@@ -89,10 +16,12 @@ const AS_IT_IS: (usize, u8) = (0, 0xca);
 fn refuses_words_and_files(rt: HostRuntime) -> Result<(), Fail> {
     let alloc = rt.alloc();
     let (at, byte) = AS_IT_IS;
-    let rows: [Row<'_>; 17] = [
+    let rows: [Row<'_>; 19] = [
         (&[], at, byte, 2, b"cjvm: usage\n"),
         (&["run"], at, byte, 2, b"cjvm: usage\n"),
-        (&["check", "A.class"], at, byte, 2, b"cjvm: usage\n"),
+        (&["check"], at, byte, 2, b"cjvm: usage\n"),
+        (&["verify", "A.class"], at, byte, 2, b"cjvm: usage\n"),
+        (&["Run", "A.class"], at, byte, 2, b"cjvm: usage\n"),
         (&["run", "-x", "A.class"], at, byte, 2, b"cjvm: usage\n"),
         (&["run", "--main"], at, byte, 2, b"cjvm: usage\n"),
         (&["run", "--main", "A"], at, byte, 2, b"cjvm: usage\n"),
@@ -169,7 +98,7 @@ fn refuses_words_and_files(rt: HostRuntime) -> Result<(), Fail> {
 #[test]
 fn refuses_changed_bytes(rt: HostRuntime) -> Result<(), Fail> {
     let alloc = rt.alloc();
-    let rows: [(usize, u8, &[u8]); 15] = [
+    let rows: [(usize, u8, &[u8]); 17] = [
         (0, 0, b"cjvm: refused A.class magic\n"),
         (10, 2, b"cjvm: refused A.class pool tag 1\n"),
         (13, 0, b"cjvm: refused A.class pool text 1\n"),
@@ -178,6 +107,16 @@ fn refuses_changed_bytes(rt: HostRuntime) -> Result<(), Fail> {
         (195, 1, b"cjvm: refused A.class item link 194\n"),
         (197, 2, b"cjvm: refused A link super-loop A\n"),
         (197, 0, b"cjvm: refused A link wrong-kind\n"),
+        (
+            192,
+            2,
+            b"cjvm: refused A link wrong-kind main([Ljava/lang/String;)V\n",
+        ),
+        (
+            221,
+            0,
+            b"cjvm: refused A main([Ljava/lang/String;)V rule 5 at 0\n",
+        ),
         (213, 5, b"cjvm: refused A.class code count 0\n"),
         (217, 0x15, b"cjvm: refused A.class attribute length 214\n"),
         (225, 0, b"cjvm: refused A.class code length 0\n"),
@@ -200,10 +139,12 @@ fn refuses_changed_bytes(rt: HostRuntime) -> Result<(), Fail> {
     ];
     for (at, byte, report) in rows {
         let file = changed_file(alloc, at, byte)?;
-        let left = call(alloc, &["run", "A.class"], file, NO_FAILS)?;
-        assert_eq!(rt; left.outcome.status, 3);
-        assert_eq!(rt; left.err.as_slice(), report);
-        assert_eq!(rt; left.out.len(), 0);
+        for command in ["run", "check"] {
+            let left = call(alloc, &[command, "A.class"], file.clone()?, NO_FAILS)?;
+            assert_eq!(rt; left.outcome.status, 3);
+            assert_eq!(rt; left.err.as_slice(), report);
+            assert_eq!(rt; left.out.len(), 0);
+        }
     }
     Ok(())
 }

@@ -1,22 +1,26 @@
 -- What reading files and accepting them answers.
 use Rattle.std.specs.Prelude.{◌≡◌, ◌⊎◌, ℕ, ◌≤◌, List, [], ◌∷◌, length, slice_get, Option, Some, None, Result, Ok, Err}
+use Rattle.acceptance.specs.Accepted.{AreAccepted, AreUntyped}
 use Rattle.cjvm_io.specs.Faults.{Rose}
 use Rattle.cjvm_io.specs.Shelves.{Files, bytes_under}
 use Rattle.class_format.specs.declared.class.ClassFile.{ClassFile}
 use Rattle.class_format.specs.Meaning.{Spells}
 use Rattle.class_file.specs.Refused.{IsRefused}
-use Rattle.link_rules.specs.declared.error.LinkErr.{LinkErr}
 use Rattle.class_link.specs.Refusals.{link_refusals}
 use Rattle.thin_file.specs.declared.thin.ThinCode.{ThinCode}
 use Rattle.thin_file.specs.Thin.{IsThin}
 use Rattle.one_jvm.specs.declared.loading.Loaded.{Loaded}
 use Rattle.one_jvm.specs.declared.loading.Refused.{Refused}
+use Rattle.one_jvm.specs.declared.loading.Task.{Task}
+use Rattle.one_jvm.specs.declared.loading.Task.TheVariants.{Run, Tell}
 use Rattle.one_jvm.specs.declared.outcome.Refusal.{Refusal}
-use Rattle.one_jvm.specs.declared.outcome.Refusal.TheVariants.{Usage, File, Link, NoFile, ReadFault, WriteFault, TooLong, NotYet, NoMemory}
+use Rattle.one_jvm.specs.declared.outcome.Refusal.TheVariants.{Usage, File, Link, Flow, NoFile, ReadFault, WriteFault, TooLong, NotYet, NoMemory}
+use Rattle.one_jvm.specs.declared.words.Command.TheVariants as command
 use Rattle.one_jvm.specs.Words.{Asked}
-use Rattle.one_jvm.specs.Verdicts.{limit, IsMissing, IsLong, IsRefusedFile, IsClassFile, AreClassFiles, StopsAt, main_of, AreRefused, IsThinProgram, IsOtherProgram, AreUnder}
-use Rattle.one_jvm.specs.Answers.{IsAny, IsLinkText}
-use Rattle.one_jvm.specs.Outcomes.{link_text}
+use Rattle.one_jvm.specs.Verdicts.{limit, IsMissing, IsLong, IsRefusedFile, IsClassFile, AreClassFiles, StopsAt, main_of, IsThinProgram, IsOtherProgram, AreUnder}
+use Rattle.one_jvm.specs.Verdicts as verdicts
+use Rattle.one_jvm.specs.Answers.{IsAny, IsAccepted, IsToldText}
+use Rattle.one_jvm.specs.Outcomes.{told_text, accepted_text}
 
 -- ---- one file
 
@@ -107,15 +111,17 @@ Loads told names before now (Err e) =
 
 -- ---- the program
 
--- what linking refuses of some classes
-abbrev pub refusals_of : Asked → List ClassFile → List LinkErr
-refusals_of asked classes = link_refusals classes (main_of asked.main classes)
+-- the classes are accepted with the main class of the call
+abbrev pub IsFine : Asked → List ClassFile → Type 0
+IsFine asked classes = AreAccepted classes (main_of asked.main classes)
 
--- the classes aren't linked, or memory ran out
-abbrev pub IsUnlinked : List LinkErr → Refusal → Type 0
-IsUnlinked refused (Link e) = slice_get refused 0 ≡ Some e
-IsUnlinked refused NoMemory = Unit {0}
-IsUnlinked refused _ = ⊥
+-- they aren't, or memory ran out
+abbrev pub IsUnfit : Asked → List ClassFile → Refusal → Type 0
+IsUnfit asked classes (Link e) =
+    slice_get (link_refusals classes (main_of asked.main classes)) 0 ≡ Some e
+IsUnfit asked classes (Flow e) = AreUntyped e classes (main_of asked.main classes)
+IsUnfit asked classes NoMemory = Unit {0}
+IsUnfit asked classes _ = ⊥
 
 -- there is one file, and it is thin
 pub record IsOneThin (asked : Asked) (bytes : List ℕ) (code : ThinCode) : Type 0 where
@@ -128,30 +134,52 @@ IsNotThin asked bytes NotYet = (code : ThinCode) → ¬ IsOneThin asked bytes co
 IsNotThin asked bytes NoMemory = Unit {0}
 IsNotThin asked bytes _ = ⊥
 
--- the classes are linked, and the one file is thin
-pub record IsAccepted (asked : Asked) (l : Loaded) (code : ThinCode) : Type 0 where
-  pub links : refusals_of asked l.classes ≡ []
-  pub thin : IsOneThin asked l.bytes.items code
+-- the task of the accepted classes: to run the program of the one thin file, or to say that they are
+-- accepted
+abbrev pub IsTask : Asked → Loaded → Task → Type 0
+IsTask asked l (Run code) = (asked.command ≡ command.Run) × IsOneThin asked l.bytes.items code
+IsTask asked l (Tell text) =
+    (asked.command ≡ command.Check) × (text.items ≡ accepted_text l.classes)
 
--- the classes are linked, but there isn't one thin file
+-- they have none, or memory ran out
+abbrev pub HasNoTask : Asked → Loaded → Refusal → Type 0
+HasNoTask asked l NotYet =
+    (asked.command ≡ command.Run) × ((code : ThinCode) → ¬ IsOneThin asked l.bytes.items code)
+HasNoTask asked l NoMemory = Unit {0}
+HasNoTask asked l _ = ⊥
+
+-- the classes are accepted, with this task
+pub record IsSet (asked : Asked) (l : Loaded) (t : Task) : Type 0 where
+  pub fine : IsFine asked l.classes
+  pub task : IsTask asked l t
+
+-- the classes are accepted and are to be run, but there isn't one thin file
 pub record IsOther (asked : Asked) (l : Loaded) : Type 0 where
-  pub links : refusals_of asked l.classes ≡ []
+  pub fine : IsFine asked l.classes
+  pub run : asked.command ≡ command.Run
   pub other : (code : ThinCode) → ¬ IsOneThin asked l.bytes.items code
 
--- they aren't run, or memory ran out
-abbrev pub IsNotRun : Asked → Loaded → Refusal → Type 0
-IsNotRun asked l NotYet = IsOther asked l
-IsNotRun asked l e = IsUnlinked (refusals_of asked l.classes) e
+-- why there is no task
+abbrev pub IsNotSet : Asked → Loaded → Refusal → Type 0
+IsNotSet asked l NotYet = IsOther asked l
+IsNotSet asked l e = IsUnfit asked l.classes e
+
+-- what is to be done with the files
+abbrev pub IsTaskOf : Task → Asked → List (Option (List ℕ)) → Type 0
+IsTaskOf (Run code) = IsThinProgram code
+IsTaskOf (Tell text) = IsAccepted text.items
 
 -- the files' program is refused
-abbrev pub RefusesProgram : Option (List ℕ) → Refusal → List (Option (List ℕ)) → Type 0
-RefusesProgram main NotYet contents = IsOtherProgram main contents
-RefusesProgram main (Link e) contents = AreRefused e main contents
-RefusesProgram main e contents = RefusesFiles e contents
+abbrev pub RefusesProgram : Refusal → Asked → List (Option (List ℕ)) → Type 0
+RefusesProgram NotYet asked contents = IsOtherProgram asked contents
+RefusesProgram (Link e) asked contents = verdicts.AreRefused e asked contents
+RefusesProgram (Flow e) asked contents = verdicts.AreUntyped e asked contents
+RefusesProgram e asked contents = RefusesFiles e contents
 
 -- what a refusal of some classes tells
 abbrev pub IsTextOf : List ClassFile → Refusal → List ℕ → Type 0
-IsTextOf classes (Link e) text = text ≡ link_text classes e
+IsTextOf classes (Link e) text = text ≡ told_text classes (Link e)
+IsTextOf classes (Flow e) text = text ≡ told_text classes (Flow e)
 IsTextOf classes _ text = Unit {0}
 
 -- a refusal of some classes with what it tells, or want of memory
@@ -160,20 +188,20 @@ IsTold classes e r =
     ((r.refusal ≡ e) × IsTextOf classes e r.text.items) ⊎ (r.refusal ≡ NoMemory)
 
 -- what a refusal of the files tells
-abbrev pub HasText : Option Files → List (List ℕ) → Refusal → List ℕ → Type 0
-HasText told names (Link e) text = AreFound told names (IsLinkText e text)
-HasText told names _ text = Unit {0}
+abbrev pub HasText : Option Files → Asked → Refusal → List ℕ → Type 0
+HasText told asked (Link e) text = AreFound told asked.files (IsToldText (Link e) text asked)
+HasText told asked (Flow e) text = AreFound told asked.files (IsToldText (Flow e) text asked)
+HasText told asked _ text = Unit {0}
 
--- the files have no program that is run, and why
+-- the files have no task, and why
 pub record HasNoProgram (told : Option Files) (asked : Asked) (before now : ℕ) (e : Refusal)
     (text : List ℕ) : Type 0 where
-  pub cause : AreFound told asked.files (RefusesProgram asked.main e)
+  pub cause : AreFound told asked.files (RefusesProgram e asked)
       ⊎ LoadFails told asked.files before now e
-  pub tells : HasText told asked.files e text
+  pub tells : HasText told asked e text
 
--- what holds of the shelf's files where forming their program answers so
-abbrev pub Programs : Option Files → Asked → ℕ → ℕ → Result ThinCode Refused → Type 0
-Programs told asked before now (Ok code) =
-    AreFound told asked.files (IsThinProgram code asked.main)
+-- what holds of the shelf's files where finding their task answers so
+abbrev pub Programs : Option Files → Asked → ℕ → ℕ → Result Task Refused → Type 0
+Programs told asked before now (Ok t) = AreFound told asked.files (IsTaskOf t asked)
 Programs told asked before now (Err r) =
     HasNoProgram told asked before now r.refusal r.text.items

@@ -1,7 +1,7 @@
 use Rattle.one_jvm.specs.Words.{texts}
 use Rattle.one_jvm.specs.Answers.{the_faults}
-use Rattle.one_jvm.proofs.Statuses.{usage, refused, no_file, too_long, not_yet, ended, read_fault, any_write_fault, hides, silent_at_zero, done}
-use Rattle.one_jvm.proofs.Judged.{subject}
+use Rattle.one_jvm.proofs.Statuses.{usage, refused, no_file, too_long, not_yet, ended, read_fault, any_write_fault, hides, silent_at_zero, done, unrun}
+use Rattle.one_jvm.proofs.Judged.{subject, ran_answered, unwritten_answered}
 use Rattle.one_jvm.proofs.top.cjvm.Goals as goal
 
 pub returns-clause-usage : goal.returns-clause-usage
@@ -29,7 +29,16 @@ pub returns-clause-write_fault : goal.returns-clause-write_fault
 returns-clause-write_fault g c = any_write_fault (texts c.args.words.now) (g.S.Shelf.files c.args.shelf.now) (the_faults (g.S.Shelf.faults c.args.shelf.now) (g.S.Shelf.faults c.judge-verdict.new.shelf) (g.O.Sink.faults c.args.out.now) (g.O.Sink.faults c.judge-verdict.new.out)) _ c.judge-verdict.result.refusal c.close-refusal.result _ _ c.status_of.result c.status_of.ensures c.judge-verdict.ensures.cause c.close-refusal.ensures.closed
 
 pub returns-clause-done : goal.returns-clause-done
-returns-clause-done g c = done c.judge-verdict.result.stop c.judge-verdict.result.refusal c.close-refusal.result c.status_of.result c.status_of.ensures (hides _ c.judge-verdict.result.refusal _ _ c.close-refusal.result c.close-refusal.ensures.closed) c.judge-verdict.ensures.agrees c.close-refusal.ensures.silent
+returns-clause-done g c = done (texts c.args.words.now) c.judge-verdict.result.stop c.judge-verdict.result.refusal c.close-refusal.result c.status_of.result c.status_of.ensures (hides _ c.judge-verdict.result.refusal _ _ c.close-refusal.result c.close-refusal.ensures.closed) c.judge-verdict.ensures.agrees c.close-refusal.ensures.silent
+
+pub returns-clause-checked : goal.returns-clause-checked
+returns-clause-checked g c = unrun (texts c.args.words.now) c.judge-verdict.result.stop c.judge-verdict.result.refusal c.judge-verdict.ensures.agrees
+
+pub returns-clause-run : goal.returns-clause-run
+returns-clause-run g c = ran_answered (texts c.args.words.now) (g.S.Shelf.files c.args.shelf.now) _ _ c.judge-verdict.result.order c.judge-verdict.result.stop c.judge-verdict.result.refusal c.close-refusal.result c.close-refusal.ensures.silent (hides _ c.judge-verdict.result.refusal _ _ c.close-refusal.result c.close-refusal.ensures.closed) c.judge-verdict.ensures.run
+
+pub returns-clause-no_run : goal.returns-clause-no_run
+returns-clause-no_run g c u = c.judge-verdict.ensures.no_run (unwritten_answered (texts c.args.words.now) c.judge-verdict.result.stop c.judge-verdict.result.refusal c.close-refusal.result c.close-refusal.ensures.silent (hides _ c.judge-verdict.result.refusal _ _ c.close-refusal.result c.close-refusal.ensures.closed) u)
 
 pub returns-clause-no_report : goal.returns-clause-no_report
 returns-clause-no_report g c e = c.close-refusal.ensures.no_report (silent_at_zero c.judge-verdict.result.refusal c.close-refusal.result c.status_of.result c.status_of.ensures (hides _ c.judge-verdict.result.refusal _ _ c.close-refusal.result c.close-refusal.ensures.closed) e)
