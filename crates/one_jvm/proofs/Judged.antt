@@ -91,7 +91,8 @@ module _ (words : List (List ℕ)) (told : Option Files) (a : Asked) (call : IsC
     pub has_program : Names told words (IsThinProgram code)
     has_program = names (IsThinProgram code) h
 
-    because_ran : (s : Stop) (order : List Choice) → RanTo code order before now s → Because words told faults (refusal_of s)
+    -- why such a call ends so
+    pub because_ran : (s : Stop) (order : List Choice) → RanTo code order before now s → Because words told faults (refusal_of s)
     because_ran stop.Done order r = inl (inl (code, has_program))
     because_ran stop.WriteFault order r = inr (record { is_call = (a, call); hindrance = WriteFault; strikes = rw (b, n) at r.1; shows = refl })
     because_ran stop.NoMemory order r = inr (record { is_call = (a, call); hindrance = NoMemory; strikes = tt; shows = refl })
@@ -116,12 +117,18 @@ module _ (words : List (List ℕ)) (told : Option Files) (a : Asked) (call : IsC
     pub because_said : (refusal : Option Refusal) → Says line before now refusal → Because words told faults refusal
     because_said None s = inl (inr (record { asked = a; is_call = call; contents = h.contents; under = h.under; such = h.such.checked }))
     because_said (Some e) s =
-        inr (record { is_call = (a, call); hindrance = WriteFault; strikes = rw (b, n) at s.1.0; shows = subst (λ (x : Refusal). Some x ≡ Some WriteFault) (sym s.0) refl })
+        inr (record { is_call = (a, call); hindrance = WriteFault; strikes = rw (b, n) at s.1; shows = subst (λ (x : Refusal). Some x ≡ Some WriteFault) (sym s.0) refl })
 
     -- what standard output gained
     pub wrote_said : (refusal : Option Refusal) → Says line before now refusal → Wrote words told before now refusal
     wrote_said None s = said (λ l. Says l before now None) s
     wrote_said (Some e) s = inr (said (λ l. Says l before now (Some e)) s)
+
+    -- the line was written, or a write of it failed
+    pub unwritten_not : (s : Option Stop) (refusal : Option Refusal) → Says line before now refusal → IsUnwritten words s refusal → ⊥
+    unwritten_not s refusal says (none, inl other) = other is_check
+    unwritten_not s None says (none, inr p) = p.0 refl
+    unwritten_not s (Some e) says (none, inr p) = p.1 (subst (λ (x : Refusal). Some x ≡ Some WriteFault) (sym says.0) refl)
 
 -- nothing is told where standard output alone failed
 pub told_said : (told : Option Files) (words : List (List ℕ)) (line : List ℕ) (before now : Showing) (refusal : Option Refusal) (text : List ℕ) → Says line before now refusal → IsToldOf told words refusal text
@@ -153,7 +160,7 @@ subject told words (Some NoMemory) text s t h = h
 -- it changes nothing of what standard output gained
 wrote_hidden : (words : List (List ℕ)) (told : Option Files) (before now : Showing) (e : Refusal) → Wrote words told before now (Some e) → Wrote words told before now (Some WriteFault)
 wrote_hidden words told before now e (inl same) = inl same
-wrote_hidden words told before now e (inr a) = inr (record { text = a.text; files = a.files; gained = (refl, a.gained.1) })
+wrote_hidden words told before now e (inr a) = inr (record { text = a.text; files = a.files; gained = (refl, a.gained.1, a.gained.2) })
 
 -- of a refusal as it is answered
 wrote_answered : (words : List (List ℕ)) (told : Option Files) (before now : Showing) (plain refusal : Option Refusal) → (plain ≡ None → refusal ≡ None) → (refusal ≡ plain) ⊎ (refusal ≡ Some WriteFault) → Wrote words told before now plain → Wrote words told before now refusal

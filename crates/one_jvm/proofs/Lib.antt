@@ -4,3 +4,4 @@ pub mod OneVerdict
 pub mod RunLoop
 pub mod Statuses
 pub mod WordLemmas
+pub mod TextLemmas

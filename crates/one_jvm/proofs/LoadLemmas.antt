@@ -413,6 +413,11 @@ no_thin a l (TooLong k) run n = absurd n
 no_thin a l (ReadFault k) run n = absurd n
 no_thin a l WriteFault run n = absurd n
 
+-- so does the call that asks for it
+pub no_thin_as : (a : Asked) (l : Loaded) (e : Refusal) (r : Result Task Refusal) → IsErrAnd r (λ d. d ≡ e) → a.command ≡ command.Run → IsNotThin a l.bytes.items e → MatchResult r (IsTask a l) (HasNoTask a l)
+no_thin_as a l e (Ok t) same run n = absurd same
+no_thin_as a l e (Err d) same run n = subst (HasNoTask a l) (sym same) (no_thin a l e run n)
+
 -- an error isn't of two kinds
 pub not_both : (e : ThinErr) → e ≡ thin.NotThin → e ≡ thin.NoMemory → ⊥
 not_both e p q = absurd cc

@@ -94,8 +94,8 @@ asked command main files = record { command = command; main = main; files = file
 one_command : (c d : Command) → command_word c ≡ command_word d → c ≡ d
 one_command Run Run e = refl
 one_command Check Check e = refl
-one_command Run Check e = let n : 3 ≡ 5 = ap length e in absurd (omega arith)
-one_command Check Run e = let n : 5 ≡ 3 = ap length e in absurd (omega arith)
+one_command Run Check e = let n : 3 ≡ 5 = ap length e in absurd (omega (arith, n))
+one_command Check Run e = let n : 5 ≡ 3 = ap length e in absurd (omega (arith, n))
 
 -- words ask for one thing
 pub one_call : (words : List (List ℕ)) (a b : Asked) → IsCall words a → IsCall words b → a ≡ b
@@ -111,8 +111,8 @@ one_call words a b h k =
 -- words that ask to run files don't ask to check them
 pub no_check : (words : List (List ℕ)) (a : Asked) → IsCall words a → a.command ≡ Run → IsCheck words → ⊥
 no_check words a h run k =
-    let same : a.command ≡ k.0.command = ap (λ (x : Asked). x.command) (one_call words a k.0 h k.1.0) in
-    let both : Run ≡ Check = sym run ∙ same ∙ k.1.1 in
+    let same : a.command ≡ k.0.command = ap (λ (x : Asked). x.command) (one_call words a k.0 h k.1) in
+    let both : Run ≡ Check = sym run ∙ same ∙ k.2 in
     absurd cc
 
 -- ---- what is read

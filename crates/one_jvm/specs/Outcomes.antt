@@ -73,12 +73,14 @@ link_text classes (Bad why class other) =
     text_bytes class ++ codes " link " ++ why_text why ++ behind_space other
 link_text classes NoMemory = []
 
--- the method without a typing, and the rule that it breaks; methods are numbered from those of the
--- boot classes on
+-- the method of a number; methods are numbered from those of the boot classes on
+abbrev pub numbered_text : List ClassFile → ℕ → List ℕ
+numbered_text classes number =
+    from [] (λ text. text) (slice_get (flat_map method_texts (boot_files ++ classes)) number)
+
+-- the method without a typing, and the rule that it breaks
 abbrev pub flow_text : List ClassFile → FlowErr → List ℕ
-flow_text classes e =
-    from [] (λ text. text) (slice_get (flat_map method_texts (boot_files ++ classes)) e.method)
-    ++ codes " " ++ broken_rule_text e
+flow_text classes e = numbered_text classes e.method ++ codes " " ++ broken_rule_text e
 
 -- what a refusal tells of class files
 abbrev pub told_text : List ClassFile → Refusal → List ℕ

@@ -147,6 +147,7 @@ fn thin_code(alloc: Global, request: &Request<'_>, bytes: &[u8]) -> Result<ThinC
 /// What is to be done with accepted files.
 fn task_of(alloc: Global, request: &Request<'_>, loaded: &Loaded) -> Result<Task, Refusal>
     requires few { length loaded.now.classes ≤ 1024 }
+    requires formed { All IsClass loaded.now.classes }
     ensures { MatchResult result (IsTask (asked_by request.now) loaded.now)
         (HasNoTask (asked_by request.now) loaded.now) }
 {

@@ -1,9 +1,9 @@
 //! What a report tells of a method without a typing, and the line of accepted files.
 
-ghost use Rattle.std.specs.Prelude.{◌≡◌, ◌+◌, ◌≤◌, ◌++◌, codes, filter, length, map, slice_get, Some, IfOk, OnOk, MatchResult};
-ghost use Rattle.std.specs.List.{flat_map, sum_by};
-ghost use Rattle.boot_table.specs.Files.{boot_files};
-ghost use Rattle.one_jvm.specs.Outcomes.{coded_methods, flow_text, accepted_text, method_texts, whole_text};
+ghost use Rattle.std.specs.Prelude.{◌≡◌, ◌+◌, ◌≤◌, ◌++◌, length, slice_get, Some, All, IfOk, OnOk, MatchResult};
+ghost use Rattle.std.specs.List.{flat_map};
+ghost use Rattle.class_format.specs.Meaning.{IsClass};
+ghost use Rattle.one_jvm.specs.Outcomes.{coded_methods, flow_text, accepted_text, method_texts, numbered_text, whole_text};
 
 use crate::link_text::push_whole;
 use boot_table::boot_classes;
@@ -29,6 +29,39 @@ fn method_of(classes: &[ClassFile], number: usize) -> Result<(&ClassFile, &Metho
     Err(rest)
 }
 
+/// The same through two lists of classes, one behind the other.
+fn method_of_both<'a>(
+    first: &'a [ClassFile],
+    second: &'a [ClassFile],
+    number: usize,
+) -> Result<(&'a ClassFile, &'a MethodItem), usize>
+    ensures { MatchResult result
+        (λ r. slice_get (flat_map method_texts (first.now ++ second.now)) number
+        ≡ Some (whole_text r.0.now r.1.now))
+        (λ rest. number ≡ length (flat_map method_texts (first.now ++ second.now)) + rest) }
+{
+    match method_of(first, number) {
+        Ok(found) => Ok(found),
+        Err(rest) => method_of(second, rest),
+    }
+}
+
+/// Adds the text of the method of a number: those of the boot classes come first.
+fn push_numbered(
+    alloc: Global,
+    bytes: &mut Vec<u8>,
+    classes: &[ClassFile],
+    number: u32,
+) -> Result<(), NoMemory>
+    ensures { OnOk result (bytes.new.items ≡ bytes.old.items ++ numbered_text classes.now number) }
+{
+    let boot = boot_classes(alloc)?;
+    match method_of_both(boot.as_slice(), classes, number as usize) {
+        Ok((class, method)) => push_whole(alloc, bytes, class, method),
+        Err(_) => Ok(()),
+    }
+}
+
 /// What is told of a method without a typing.
 pub(crate) fn flow_text(
     alloc: Global,
@@ -37,15 +70,8 @@ pub(crate) fn flow_text(
 ) -> Result<Vec<u8>, NoMemory>
     ensures { IfOk result (λ v. v.items ≡ flow_text classes.now why) }
 {
-    let boot = boot_classes(alloc)?;
-    let found = match method_of(boot.as_slice(), why.method as usize) {
-        Ok(found) => Ok(found),
-        Err(rest) => method_of(classes, rest),
-    };
     let mut bytes = Vec::new(alloc);
-    if let Ok((class, method)) = found {
-        push_whole(alloc, &mut bytes, class, method)?;
-    }
+    push_numbered(alloc, &mut bytes, classes, why.method)?;
     bytes.extend_from_slice(b" ")?;
     let reason = format!(in alloc; "{why}")?;
     bytes.extend_from_slice(reason.as_bytes())?;
@@ -63,9 +89,10 @@ fn coded_methods(class: &ClassFile) -> usize
 /// The line that says that class files are accepted.
 pub(crate) fn accepted_text(alloc: Global, classes: &[ClassFile]) -> Result<Vec<u8>, NoMemory>
     requires few { length classes.now ≤ 1024 }
+    requires formed { All IsClass classes.now }
     ensures { IfOk result (λ v. v.items ≡ accepted_text classes.now) }
 {
-    let mut methods = 0;
+    let mut methods: u64 = 0;
     for class in classes {
         methods += coded_methods(class) as u64;
     }

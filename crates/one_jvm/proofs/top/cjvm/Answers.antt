@@ -1,3 +1,4 @@
+use Rattle.cjvm_io.specs.Sinks.{shown}
 use Rattle.one_jvm.specs.Words.{texts}
 use Rattle.one_jvm.specs.Answers.{the_faults}
 use Rattle.one_jvm.proofs.Statuses.{usage, refused, no_file, too_long, not_yet, ended, read_fault, any_write_fault, hides, silent_at_zero, done, unrun}
@@ -35,7 +36,7 @@ pub returns-clause-checked : goal.returns-clause-checked
 returns-clause-checked g c = unrun (texts c.args.words.now) c.judge-verdict.result.stop c.judge-verdict.result.refusal c.judge-verdict.ensures.agrees
 
 pub returns-clause-run : goal.returns-clause-run
-returns-clause-run g c = ran_answered (texts c.args.words.now) (g.S.Shelf.files c.args.shelf.now) _ _ c.judge-verdict.result.order c.judge-verdict.result.stop c.judge-verdict.result.refusal c.close-refusal.result c.close-refusal.ensures.silent (hides _ c.judge-verdict.result.refusal _ _ c.close-refusal.result c.close-refusal.ensures.closed) c.judge-verdict.ensures.run
+returns-clause-run g c = ran_answered (texts c.args.words.now) (g.S.Shelf.files c.args.shelf.now) (shown g.O.Sink.held g.O.Sink.faults c.args.out.now) (shown g.O.Sink.held g.O.Sink.faults c.judge-verdict.new.out) c.judge-verdict.result.order c.judge-verdict.result.stop c.judge-verdict.result.refusal c.close-refusal.result c.close-refusal.ensures.silent (hides _ c.judge-verdict.result.refusal _ _ c.close-refusal.result c.close-refusal.ensures.closed) c.judge-verdict.ensures.run
 
 pub returns-clause-no_run : goal.returns-clause-no_run
 returns-clause-no_run g c u = c.judge-verdict.ensures.no_run (unwritten_answered (texts c.args.words.now) c.judge-verdict.result.stop c.judge-verdict.result.refusal c.close-refusal.result c.close-refusal.ensures.silent (hides _ c.judge-verdict.result.refusal _ _ c.close-refusal.result c.close-refusal.ensures.closed) u)

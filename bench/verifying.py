@@ -1,0 +1,151 @@
+#!/usr/bin/env python3
+"""Times how the built program verifies: ordinary methods, and those that mean harm.
+
+Each size of a kind is about a tenth of the next. Prints the time of `cjvm check` of the file, and the time
+a byte, net of the time of one small class, as the least of several runs.
+Usage: bench/verifying.py (the program is built by ./cjvm).
+"""
+import os
+import struct
+import tempfile
+
+from linked import Pool, class_file, method
+from program import CJVM, least_time, need_programs
+
+LIMIT = 65535
+
+
+def in_file(make, count):
+    """A class of so many methods of this code, given by its code, stack, locals and handlers."""
+    pool = Pool()
+    methods = [method(pool, b"m%d" % i, b"()V", *make(pool)) for i in range(count)]
+    return class_file(pool, b"A", methods)
+
+
+def branch(opcode, offset):
+    return struct.pack(">Bh", opcode, offset)
+
+
+def loop_code(pool):
+    """A loop of some sums with a call in it, as compilers write it."""
+    call = pool.member(10, b"A", b"m0", b"()V")
+    body = b"\x1b\x1a\x60\x3c" * 4 + struct.pack(">BH", 184, call)
+    turn = b"\x84\x00\x01\x1a\x10\x64"
+    back = branch(0xA1, -len(body + turn))
+    return b"\x03\x3b\x03\x3c" + body + turn + back + b"\xb1", 2, 2, ()
+
+
+def straight(length, locals_count=2):
+    """Sums without a jump, in one method."""
+
+    def make(pool):
+        code = b"\x03\x3b" + b"\x1a\x04\x60\x3b" * ((length - 3) // 4) + b"\xb1"
+        return code, 2, locals_count, ()
+
+    return make
+
+
+def joins(length, locals_count):
+    """Each second instruction is one at which a jump and what goes on meet."""
+
+    def make(pool):
+        step = b"\x1a" + branch(0x99, 3)
+        code = b"\x03\x3b" + step * ((length - 3) // 4) + b"\xb1"
+        return code, 2, locals_count, ()
+
+    return make
+
+
+def back_jumps(length, locals_count):
+    """Each second instruction jumps back to the first, at which all that is assigned on the way meets."""
+
+    def make(pool):
+        code = b"\x03\x3b"
+        local = 1
+        while len(code) + 12 < min(length, 32760):
+            local = local % (locals_count - 1) + 1
+            code += b"\x1a" + struct.pack(">BB", 54, local)
+            code += b"\x1a" + branch(0x99, 2 - (len(code) + 1))
+        return code + b"\xb1", 2, locals_count, ()
+
+    return make
+
+
+def handlers(length, count):
+    """So many handlers over one range."""
+
+    def make(pool):
+        body = b"\x03\x3b" + b"\x1a\x04\x60\x3b" * ((length - 8) // 4)
+        catch = len(body) + 1
+        table = [(0, len(body), catch, 0)] * count
+        return body + b"\xb1" + b"\x57\xb1", 2, 2, table
+
+    return make
+
+
+def deep_stack(length):
+    """A stack that grows to the end."""
+
+    def make(pool):
+        return b"\x03" * (length - 1) + b"\xb1", LIMIT, 1, ()
+
+    return make
+
+
+def chain_files(depth):
+    """Classes one below the other, of which objects of every two meet."""
+    files = []
+    for number in range(depth):
+        pool = Pool()
+        above = b"C%d" % (number - 1) if number else b"java/lang/Object"
+        files.append(class_file(pool, b"C%d" % number, [], above))
+    pool = Pool()
+    code = b"\x01\x4b"
+    for number in range(depth):
+        target = pool.named(7, b"C%d" % number)
+        code += b"\x03" + branch(0x99, 8) + b"\x01" + struct.pack(">BH", 192, target) + b"\x4b"
+    files.append(class_file(pool, b"M", [method(pool, b"m", b"()V", code + b"\xb1", 2, 1)]))
+    return files
+
+
+KINDS = (
+    ("ordinary methods", [lambda n=n: [in_file(loop_code, n)] for n in (70, 700, 7000)]),
+    ("one method of sums", [lambda n=n: [in_file(straight(n), 1)] for n in (655, 6553, LIMIT)]),
+    ("the same, 255 locals", [lambda n=n: [in_file(straight(n, 255), 1)] for n in (655, 6553, LIMIT)]),
+    ("the same, 65,535 locals", [lambda n=n: [in_file(straight(n, LIMIT), 1)] for n in (655, 6553, LIMIT)]),
+    ("joins, 2 locals", [lambda n=n: [in_file(joins(n, 2), 1)] for n in (655, 6553, LIMIT)]),
+    ("joins, 255 locals", [lambda n=n: [in_file(joins(n, 255), 1)] for n in (655, 6553, LIMIT)]),
+    ("joins, 65,535 locals", [lambda n=n: [in_file(joins(n, LIMIT), 1)] for n in (655, 6553)]),
+    ("jumps back, 255 locals", [lambda n=n: [in_file(back_jumps(n, 255), 1)] for n in (655, 6553, LIMIT)]),
+    ("1,000 handlers", [lambda n=n: [in_file(handlers(n, 1000), 1)] for n in (655, 6553, LIMIT)]),
+    ("a stack of 65,534", [lambda n=n: [in_file(deep_stack(n), 1)] for n in (655, 6553, LIMIT)]),
+    ("16 methods of joins, 255 locals", [lambda: [in_file(joins(LIMIT, 255), 15)]]),
+    ("a chain of classes", [lambda n=n: chain_files(n) for n in (10, 100, 1000)]),
+)
+
+
+def written(folder, files):
+    paths = []
+    for number, file in enumerate(files):
+        paths.append(os.path.join(folder, f"{number}.class"))
+        with open(paths[-1], "wb") as out:
+            out.write(file)
+    return paths
+
+
+def main():
+    need_programs(CJVM)
+    with tempfile.TemporaryDirectory() as folder:
+        small = least_time([CJVM, "check", *written(folder, [in_file(straight(7), 1)])], 0, None)
+        print(f"one small class: {small * 1000:.2f} ms")
+        for name, sizes in KINDS:
+            for make in sizes:
+                files = make()
+                size = sum(map(len, files))
+                took = least_time([CJVM, "check", *written(folder, files)], 0, None)
+                net = max(took - small, 0) / size * 1e9
+                print(f"{name:32} {size:8} bytes: {took * 1000:9.2f} ms, {net:9.1f} ns a byte")
+
+
+if __name__ == "__main__":
+    main()
