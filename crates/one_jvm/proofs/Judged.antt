@@ -1,23 +1,18 @@
 -- From the files of a call to its verdict.
-use Rattle.std.proofs.Common.{◌≡◌, ℕ, List, [], Option, Some, None, Ok, Err, refl, sym, subst, inl, inr, ⊎_elim, ◌⊎◌}
+use Rattle.std.proofs.Common.{◌≡◌, ℕ, List, Option, Some, None, Err, refl, sym, subst, inl, inr, ⊎_elim, ◌⊎◌}
 use Rattle.std.specs.Prelude.{◌≢◌}
-use Rattle.std.specs.Io.KnownBytes.{Appends}
-use Rattle.cjvm_io.specs.Faults.{Rose}
 use Rattle.cjvm_io.specs.Shelves.{Files}
-use Rattle.cjvm_io.specs.Sinks.{Showing, GainsFront}
+use Rattle.cjvm_io.specs.Sinks.{Showing}
 use Rattle.thin_file.specs.declared.thin.ThinCode.{ThinCode}
 use Rattle.one_machine.specs.declared.state.Choice.{Choice}
 use Rattle.one_jvm.specs.declared.outcome.Stop.{Stop}
 use Rattle.one_jvm.specs.declared.outcome.Stop.TheVariants as stop
 use Rattle.one_jvm.specs.declared.outcome.Refusal.{Refusal}
 use Rattle.one_jvm.specs.declared.outcome.Refusal.TheVariants.{Usage, File, Link, Flow, NoFile, ReadFault, WriteFault, TooLong, NotYet, NoMemory}
-use Rattle.one_jvm.specs.declared.loading.Task.{Task}
-use Rattle.one_jvm.specs.declared.loading.Task.TheVariants.{Run, Tell}
-use Rattle.one_jvm.specs.declared.words.Command.TheVariants as command
 use Rattle.one_jvm.specs.Words.{Asked, IsCall, IsCheck}
 use Rattle.one_jvm.specs.Verdicts.{Names, StopsAt, IsThinProgram, IsVerdict}
-use Rattle.one_jvm.specs.Answers.{Faults, IsAny, IsHindered, Because, Agrees, Wrote, Says, Ran, Accepts, IsAccepted, IsUnwritten, refusal_of, IsToldText, IsSubject, IsClosed}
-use Rattle.one_jvm.specs.Steps.Loading.{AreFound, RefusesProgram, LoadFails, HasText, HasNoProgram, IsTaskOf, Programs}
+use Rattle.one_jvm.specs.Answers.{Faults, IsAny, IsHindered, Because, Agrees, Wrote, Says, Ran, Accepts, IsAccepted, IsUnwritten, refusal_of, IsToldText, IsSubject}
+use Rattle.one_jvm.specs.Steps.Loading.{AreFound, RefusesProgram, LoadFails, HasText, HasNoProgram, Programs}
 use Rattle.one_jvm.specs.Steps.Speaking.{IsToldOf, Speaks}
 use Rattle.one_jvm.specs.declared.loading.Refused.{Refused}
 use Rattle.one_jvm.specs.Runs.{RanTo}

@@ -1,8 +1,8 @@
 -- What was read and accepted.
-use Rattle.std.proofs.Common.{◌≡◌, ℕ, zero, suc, ◌≤◌, ◌<◌, ◌+◌, ◌-◌, min, List, [], ◌∷◌, ◌++◌, length, take, drop, get_or, map, Option, Some, None, Result, Ok, Err, refl, sym, ap, subst, ◌∙◌, inl, inr, ◌⊎◌, ⊎_elim, add-one, arith}
+use Rattle.std.proofs.Common.{◌≡◌, ℕ, suc, ◌≤◌, ◌<◌, ◌+◌, ◌-◌, List, [], ◌∷◌, ◌++◌, length, take, get_or, map, Option, Some, None, Result, Ok, Err, refl, sym, ap, subst, ◌∙◌, inl, inr, ◌⊎◌, arith}
 use Rattle.std.specs.Result.{IsErrAnd}
 use Rattle.std.specs.Prelude.{MatchResult, replicate, slice_get, option_map}
-use Rattle.std.proofs.lemmas.List.{length-append, length-map, map-append, length-replicate, append_assoc}
+use Rattle.std.proofs.lemmas.List.{length-append, length-map, map-append, length-replicate}
 use Rattle.std.specs.List.{take-map, All, AllByRecursion}
 use Rattle.std.proofs.Math.Seq.{get_or-append_seam, take-append_seam}
 use Rattle.std.proofs.lemmas.Option.{slice_get_within, slice_get_read, slice_get-map, slice_get-get_or, get_or_from_slice_get}
@@ -15,7 +15,6 @@ use Rattle.class_format.specs.Meaning.{IsClass, Spells}
 use Rattle.class_format.proofs.Recursion.{all_of}
 use Rattle.class_file.proofs.PlainLaws.{is_class}
 use Rattle.one_jvm.specs.declared.loading.Refused.{Refused}
-use Rattle.class_file.specs.declared.error.ClassErr.{ClassErr}
 use Rattle.thin_file.specs.declared.thin.ThinCode.{ThinCode}
 use Rattle.thin_file.specs.declared.thin.ThinErr.{ThinErr}
 use Rattle.thin_file.specs.declared.thin.ThinErr.TheVariants as thin
@@ -27,7 +26,7 @@ use Rattle.one_jvm.specs.declared.words.Command.TheVariants as command
 use Rattle.one_jvm.specs.declared.loading.Task.{Task}
 use Rattle.one_jvm.specs.declared.loading.Task.TheVariants.{Run, Tell}
 use Rattle.one_jvm.specs.Words.{Asked, name_at}
-use Rattle.one_jvm.specs.Verdicts.{limit, IsMissing, IsLong, IsRefusedFile, IsClassFile, AreClassFiles, StopsAt, AreAccepted, IsThinFile, IsThinProgram, IsOtherProgram, AreUnder}
+use Rattle.one_jvm.specs.Verdicts.{limit, IsMissing, IsLong, IsRefusedFile, IsClassFile, AreClassFiles, StopsAt, AreAccepted, IsThinFile, IsOtherProgram, AreUnder}
 use Rattle.one_jvm.specs.Answers.{IsAny}
 use Rattle.one_jvm.specs.Steps.Loading.{IsUnder, IsFound, IsRead, RefusesBytes, RefusesFile, FailsAt, ReadsFile, AreFound, IsLast, AreRead, RefusesFiles, LoadFails, Loads, IsFine, IsOneThin, IsNotThin, IsTask, HasNoTask, IsSet, IsNotSet, IsOther, IsTaskOf, RefusesProgram, IsTextOf, IsTold, HasText, HasNoProgram, Programs}
 

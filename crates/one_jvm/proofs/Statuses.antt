@@ -1,7 +1,6 @@
 -- Each status comes exactly with its cause.
 use Rattle.std.proofs.Common.{◌≡◌, ℕ, ◌==◌, List, [], ◌∷◌, Option, Some, None, refl, sym, ap, subst, ◌∙◌, ◌⊎◌, inl, inr, ⊎_elim, if◌then◌else◌, Bool, true, false, ◌||◌, arith}
 use Rattle.std.specs.Prelude.{◌↔◌}
-use Rattle.std.specs.Option.{IfSome}
 use Rattle.std.proofs.lemmas.Bool.{eq-eqb, or_parts}
 use Rattle.cjvm_io.specs.Faults.{Rose}
 use Rattle.cjvm_io.specs.Shelves.{Files}

@@ -1,11 +1,10 @@
 -- Words: an option among files.
-use Rattle.std.proofs.Common.{◌≡◌, ℕ, ◌+◌, ◌<◌, ◌==◌, Bool, true, false, ◌||◌, List, [], ◌∷◌, ◌++◌, length, get_or, take, drop, Option, Some, None, refl, sym, ap, subst, inl, inr, ◌⊎◌, ◌∙◌, add-one, map, codes, arith}
+use Rattle.std.proofs.Common.{◌≡◌, ℕ, ◌==◌, Bool, true, false, List, [], ◌∷◌, ◌++◌, length, Option, Some, None, refl, sym, ap, subst, inl, inr, ◌⊎◌, ◌∙◌, codes, arith}
 use Rattle.std.specs.Prelude.{◌↔◌, string_bytes, String}
 use Rattle.std.specs.List.{list_any}
-use Rattle.std.proofs.Math.Seq.{drop-cons}
 use Rattle.std.proofs.lemmas.Bool.{or_parts}
 use Rattle.std.proofs.lemmas.List.{map-append}
-use Rattle.std.proofs.lemmas.List.Folds.{list_any-append, list_any_more}
+use Rattle.std.proofs.lemmas.List.Folds.{list_any-append}
 use Rattle.one_jvm.specs.declared.words.Command.{Command}
 use Rattle.one_jvm.specs.declared.words.Command.TheVariants.{Run, Check}
 use Rattle.one_jvm.specs.Words.{texts, is_option, command_word, ArePlain, Asked, IsMixed, IsSpelled, IsCall, IsNoCall, IsCheck, name_at}

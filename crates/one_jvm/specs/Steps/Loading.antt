@@ -14,7 +14,7 @@ use Rattle.one_jvm.specs.declared.loading.Refused.{Refused}
 use Rattle.one_jvm.specs.declared.loading.Task.{Task}
 use Rattle.one_jvm.specs.declared.loading.Task.TheVariants.{Run, Tell}
 use Rattle.one_jvm.specs.declared.outcome.Refusal.{Refusal}
-use Rattle.one_jvm.specs.declared.outcome.Refusal.TheVariants.{Usage, File, Link, Flow, NoFile, ReadFault, WriteFault, TooLong, NotYet, NoMemory}
+use Rattle.one_jvm.specs.declared.outcome.Refusal.TheVariants.{File, Link, Flow, NoFile, ReadFault, TooLong, NotYet, NoMemory}
 use Rattle.one_jvm.specs.declared.words.Command.TheVariants as command
 use Rattle.one_jvm.specs.Words.{Asked}
 use Rattle.one_jvm.specs.Verdicts.{limit, IsMissing, IsLong, IsRefusedFile, IsClassFile, AreClassFiles, StopsAt, main_of, IsThinProgram, IsOtherProgram, AreUnder}

@@ -4,7 +4,6 @@ use Rattle.std.proofs.lemmas.Iterator.{YieldsList-from_chars}
 use Rattle.std.proofs.lemmas.Iterator.Consumers.{YieldsList-end}
 use Rattle.std.specs.Char.Escape.{encode_utf16}
 use Rattle.std.specs.List.{flat_map}
-use Rattle.std.specs.Str.{chars}
 use Rattle.one_jvm.specs.Verdicts.{slashed}
 use Rattle.one_jvm.proofs.main_class.class_word.Goals as goal
 

@@ -1,9 +1,8 @@
-use Rattle.std.proofs.Common.{sym, subst, ◌≡◌, Option, Some, refl, inl}
+use Rattle.std.proofs.Common.{sym, subst, Option, refl, inl}
 use Rattle.cjvm_io.specs.Sinks.{shown}
-use Rattle.one_jvm.specs.declared.outcome.Refusal.{Refusal}
 use Rattle.one_jvm.specs.declared.outcome.Stop.{Stop}
 use Rattle.one_jvm.specs.Words.{texts}
-use Rattle.one_jvm.specs.Answers.{the_faults, Because, Ran, Agrees, IsUnwritten}
+use Rattle.one_jvm.specs.Answers.{the_faults, Because, Ran, Agrees}
 use Rattle.one_jvm.specs.Steps.Loading.{AreFound, IsTaskOf}
 use Rattle.one_jvm.specs.Steps.Parts.{asked_by}
 use Rattle.one_jvm.specs.declared.loading.Task.TheVariants.{Run}

@@ -1,9 +1,7 @@
-use Rattle.std.proofs.Common.{◌≡◌, ◌≤◌, ◌+◌, List, length, Some, refl, ap, ◌∙◌, arith}
+use Rattle.std.proofs.Common.{◌≡◌, List, length, Some, refl, arith}
 use Rattle.std.specs.Prelude.{slice_get}
-use Rattle.std.specs.List.{sum_by}
 use Rattle.std.proofs.lemmas.Option.{slice_get_read}
 use Rattle.class_format.specs.declared.class.ClassFile.{ClassFile}
-use Rattle.one_jvm.specs.Outcomes.{coded_methods}
 use Rattle.one_jvm.proofs.TextLemmas.{coded_short, more_coded}
 use Rattle.one_jvm.proofs.verify_text.accepted_text.Goals as goal
 

@@ -1,4 +1,4 @@
-use Rattle.std.proofs.Common.{◌≡◌, ◌≤◌, List, length, Some, None, refl, arith, rules}
+use Rattle.std.proofs.Common.{◌≡◌, List, length, Some, None, refl, arith, rules}
 use Rattle.std.specs.Prelude.{slice_get}
 use Rattle.std.proofs.lemmas.Option.{slice_get_read}
 use Rattle.class_format.specs.declared.class.ClassFile.{ClassFile}
