@@ -1,0 +1,207 @@
+//! Joins of all pairs of types, in a local and on the stack.
+
+ghost use Rattle.flow_types.specs.Tree.{superclasses, IsTree};
+ghost use Rattle.acceptance.specs.Accepted.{AreVerifiable};
+
+use crate::builder::{push_classes, units};
+use crate::judged::{are_formed, linked};
+use crate::rows::BEFORE;
+use flow_types::{FlowFrame, FlowType};
+use flow_verifier::{Frames, VerifyErr, verify};
+use jvm_base::{List, NoMemory};
+use program_image::{Body, Image};
+use std::alloc::Global;
+use std::test::Fail;
+
+/// A letter for each type, and for its joins with all others in the same order: U for an unusable
+/// local, I an int, J a long, N null, O, A, T and C objects, of which T and C lie below A, i and j
+/// arrays of ints and longs, a and t arrays of A and T, q arrays of arrays of ints, o arrays of
+/// objects, and F what was made at one of two places and isn't initialised.
+const JOINS: [(u8, &[u8; 15]); 15] = [
+    (b'U', b"UUUUUUUUUUUUUUU"),
+    (b'I', b"UIUUUUUUUUUUUUU"),
+    (b'J', b"UUJUUUUUUUUUUUU"),
+    (b'N', b"UUUNOATCijatqoU"),
+    (b'O', b"UUUOOOOOOOOOOOU"),
+    (b'A', b"UUUAOAAAOOOOOOU"),
+    (b'T', b"UUUTOATAOOOOOOU"),
+    (b'C', b"UUUCOAACOOOOOOU"),
+    (b'i', b"UUUiOOOOiOOOOOU"),
+    (b'j', b"UUUjOOOOOjOOOOU"),
+    (b'a', b"UUUaOOOOOOaaooU"),
+    (b't', b"UUUtOOOOOOatooU"),
+    (b'q', b"UUUqOOOOOOooqoU"),
+    (b'o', b"UUUoOOOOOOooooU"),
+    (b'F', b"UUUUUUUUUUUUUUU"),
+];
+
+/// The parameters behind an int, in the order of the letters from O on: each in the local of its
+/// letter's place less 3.
+const DESC: &str = "(ILjava/lang/Object;LA;LT;LC;[I[J[LA;[LT;[[I[Ljava/lang/Object;)V";
+
+/// Five bytes that push a value of the type of a letter, or do nothing for U.
+fn push(letter: u8) -> &'static str {
+    match letter {
+        b'I' => "00 00 00 00 03",
+        b'J' => "00 00 00 00 09",
+        b'N' => "00 00 00 00 01",
+        b'O' => "00 00 00 00 2b",
+        b'A' => "00 00 00 00 2c",
+        b'T' => "00 00 00 00 2d",
+        b'C' => "00 00 00 19 04",
+        b'i' => "00 00 00 19 05",
+        b'j' => "00 00 00 19 06",
+        b'a' => "00 00 00 19 07",
+        b't' => "00 00 00 19 08",
+        b'q' => "00 00 00 19 09",
+        b'o' => "00 00 00 19 0a",
+        b'F' => "00 00 new:A",
+        _ => "00 00 00 00 00",
+    }
+}
+
+/// Two bytes that store a value of that type in local 11.
+fn store(letter: u8) -> &'static str {
+    match letter {
+        b'I' => "36 0b",
+        b'J' => "37 0b",
+        b'U' => "00 00",
+        _ => "3a 0b",
+    }
+}
+
+/// A method that takes one of two ways: 0 iload_0, ifeq 14, 4 the first, goto 21, 14 the other, 21
+/// return.
+fn method(alloc: Global, name: &str, one: u8, other: u8, kept: bool) -> Result<String, NoMemory> {
+    let (first, second) = (push(one), push(other));
+    let (last, behind) = if kept {
+        ("00 00", "00 00")
+    } else {
+        (store(one), store(other))
+    };
+    Ok(format!(in alloc;
+        "9 {name} {DESC} 2.d 1a 99 000d {first} {last} a7 000a {second} {behind} b1"
+    )?)
+}
+
+/// The program with a method for each pair of letters, of which some are left out.
+fn program(alloc: Global, kept: bool) -> Result<String, NoMemory> {
+    let mut text = String::from_str(alloc, BEFORE)?;
+    text.push_str("9 m ()V 0.0 b1")?;
+    for (one, _) in JOINS {
+        for (other, _) in JOINS {
+            let name = format!(in alloc; "{}{}", one as char, other as char)?;
+            let method = method(alloc, name.as_str(), one, other, kept)?;
+            text.push_str(", method ")?;
+            text.push_str(method.as_str())?;
+        }
+    }
+    Ok(text)
+}
+
+/// The type of a letter, by the frame in which the methods begin; those of Int and the like apart.
+fn type_of(entry: &FlowFrame, letter: u8) -> FlowType {
+    let place = match letter {
+        b'I' => return FlowType::Int,
+        b'J' => return FlowType::Long,
+        b'N' => return FlowType::Null,
+        b'O' => 1,
+        b'A' => 2,
+        b'T' => 3,
+        b'C' => 4,
+        b'i' => 5,
+        b'j' => 6,
+        b'a' => 7,
+        b't' => 8,
+        b'q' => 9,
+        b'o' => 10,
+        _ => 11,
+    };
+    entry.locals.get(place).copied().unwrap_or(FlowType::High)
+}
+
+/// What a local or the stack is to hold where two ways meet.
+fn is_joined(entry: &FlowFrame, last: &FlowFrame, letter: u8, kept: bool) -> bool {
+    let want = type_of(entry, letter);
+    if !kept {
+        return last.locals.get(11) == Some(&want) && last.stack.len() == 0;
+    }
+    last.stack.as_slice() == [want].as_slice() && last.locals.get(11) == Some(&FlowType::Unusable)
+}
+
+/// Whether the frames of a method are as said.
+fn are_joined(frames: &Frames, letter: u8, kept: bool) -> bool {
+    match (frames.get(0), frames.get(frames.len().saturating_sub(1))) {
+        (Some(Some(entry)), Some(Some(last))) => is_joined(entry, last, letter, kept),
+        _ => false,
+    }
+}
+
+/// The typing of a method with code.
+fn frames_of(alloc: Global, image: &Image, method: u32) -> Result<Option<Frames>, VerifyErr>
+    requires tree { IsTree (superclasses image.now) }
+    requires fine { AreVerifiable image.now }
+{
+    if method >= image.methods() {
+        return Ok(None);
+    }
+    match image.method(method).body {
+        Body::Code(_) => Ok(Some(verify(alloc, image, method)?)),
+        _ => Ok(None),
+    }
+}
+
+/// Whether the method of a number joins two types to that of a letter. On the stack unlike kinds have no
+/// join, and the method has no typing.
+fn joins(alloc: Global, image: &Image, method: u32, letter: u8, kept: bool) -> Result<bool, Fail>
+    requires tree { IsTree (superclasses image.now) }
+    requires fine { AreVerifiable image.now }
+{
+    match frames_of(alloc, image, method) {
+        Ok(Some(frames)) => Ok(are_joined(&frames, letter, kept)),
+        Ok(None) => Ok(false),
+        Err(VerifyErr::Flow(e)) => Ok(kept && letter == b'U' && (e.rule, e.at) == (7, 21)),
+        Err(VerifyErr::NoMemory) => Err(NoMemory.into()),
+    }
+}
+
+/// The first pair whose join is another than that of the table, which the last methods take.
+fn wrong_join(alloc: Global, image: &Image, kept: bool) -> Result<Option<(char, char)>, Fail>
+    requires tree { IsTree (superclasses image.now) }
+    requires fine { AreVerifiable image.now }
+{
+    let mut method = image.methods().saturating_sub(225);
+    for (one, letters) in JOINS {
+        for column in 0..15 {
+            let other = JOINS[column].0;
+            let pushed = !kept || (one != b'U' && other != b'U');
+            if pushed && !joins(alloc, image, method, letters[column], kept)? {
+                return Ok(Some((one as char, other as char)));
+            }
+            method = method.saturating_add(1);
+        }
+    }
+    Ok(None)
+}
+
+fn wrong_pair(alloc: Global, kept: bool) -> Result<Option<(char, char)>, Fail> {
+    let mut files = List::new(alloc);
+    push_classes(alloc, &mut files, program(alloc, kept)?.as_str())?;
+    if files.len() > 1024 || !are_formed(files.as_slice()) {
+        return Ok(Some(('?', '?')));
+    }
+    let image = linked(alloc, &files, &units(alloc, "Main")?)?;
+    wrong_join(alloc, &image, kept)
+}
+
+#[test]
+fn in_locals(rt: HostRuntime) -> Result<(), Fail> {
+    assert_eq!(rt; wrong_pair(rt.alloc(), false)?, None);
+    Ok(())
+}
+
+#[test]
+fn on_the_stack(rt: HostRuntime) -> Result<(), Fail> {
+    assert_eq!(rt; wrong_pair(rt.alloc(), true)?, None);
+    Ok(())
+}
