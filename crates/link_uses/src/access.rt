@@ -1,29 +1,42 @@
 //! What code uses is accessible.
 
-ghost use Rattle.std.specs.Prelude.{◌≡◌, ◌+◌, ◌<◌, ◌≤◌, ◌^◌, [], length, map};
+ghost use Rattle.std.specs.Prelude.{◌≡◌, ◌+◌, ◌<◌, ◌≤◌, ◌^◌, ◌&&◌, not, true, [], length, map, IfOk};
 ghost use Rattle.std.specs.List.{flat_map};
-ghost use Rattle.class_names.specs.Classes.{code_of, codes_of};
+ghost use Rattle.class_format.specs.Flags.{is_public};
+ghost use Rattle.class_names.specs.Classes.{this_name, code_of, codes_of};
+ghost use Rattle.class_names.specs.Texts.{class_text, member_in};
 ghost use Rattle.jvm_base.specs.Descriptors.{desc_of};
 ghost use Rattle.jvm_base.specs.Words.{from};
 ghost use Rattle.class_names.specs.Named.{desc_names};
 ghost use Rattle.class_names.specs.Seen.{seen_member};
 ghost use Rattle.link_rules.specs.Answers.{IsAnswer};
-ghost use Rattle.link_rules.specs.Numbers.{numbered};
+ghost use Rattle.link_rules.specs.Numbers.{numbered, flags_of};
+ghost use Rattle.link_rules.specs.Packages.{is_one_package};
 ghost use Rattle.link_uses.specs.Items.{AreItems};
+ghost use Rattle.link_uses.specs.Marks.{AreRight};
 ghost use Rattle.link_uses.specs.Lookups.{found_field, found_method};
 ghost use Rattle.link_uses.specs.Uses.{name_at, no_access_class, no_access_item, is_hidden, is_foreign_write, is_hidden_field, no_access_field, is_hidden_method, no_access_method, no_access_op, no_access_placed, no_access_entry, no_access_in, no_access};
 
 use crate::flags::{field_flags, method_flags};
 use crate::items::{field_at, file_items, method_at};
 use crate::lookup::{Found, Resolver};
+use crate::marks::{told_class, told_owner};
 use class_format::{ClassFile, FINAL, MethodItem, PRIVATE, PROTECTED, PUBLIC, has_flag};
-use class_names::{Called, class_text, desc, is_array, member, this_name};
+use class_names::{Called, class_text, desc, is_array, member, text, this_name};
 use code_table::opcode::{PUTFIELD, PUTSTATIC};
 use code_table::{Code, Op, Placed};
-use jvm_base::{Desc, Elem, List, TableItem};
+use jvm_base::{Desc, Elem, List, NoMemory, TableItem};
 use link_members::is_one_package;
 use link_rules::{LinkErr, LinkWhy, Program, ops, refuse_class_if, refuse_member_if, table};
 use std::alloc::Global;
+
+/// Whether a class is neither public nor of the same package.
+fn is_hidden_class(program: &Program, file: &ClassFile, name: &[u16]) -> bool
+    ensures { result ≡ (not (is_public (flags_of program.now name.now))
+        && not (is_one_package (this_name file.now) name.now)) }
+{
+    !has_flag(program.flags_of(name), PUBLIC) && !is_one_package(this_name(file), name)
+}
 
 #[tactic(auto, unfolding(crate::specs::Uses::no_access_class))]
 fn check_class(
@@ -34,8 +47,7 @@ fn check_class(
 ) -> Result<(), LinkErr>
     ensures { IsAnswer (no_access_class program.now file.now name.now) result }
 {
-    let is_hidden = !has_flag(program.flags_of(name), PUBLIC)
-        && !is_one_package(this_name(file), name);
+    let is_hidden = is_hidden_class(program, file, name);
     refuse_class_if(alloc, is_hidden, LinkWhy::NoAccess, file, name)
 }
 
@@ -83,6 +95,97 @@ fn check_text(
         check_array(alloc, program, file, text)
     } else {
         check_class(alloc, program, file, text)
+    }
+}
+
+/// Whether no class in a descriptor is refused.
+#[tactic(auto, unfolding(crate::specs::Uses::no_access_class))]
+fn is_allowed_desc(program: &Program, file: &ClassFile, desc: &Desc) -> bool
+    ensures { result ≡ true → flat_map (no_access_class program.now file.now) (desc_names desc.now) ≡ [] }
+{
+    match &desc.elem {
+        Elem::Object(name) => !is_hidden_class(program, file, name.as_slice()),
+        _ => true,
+    }
+}
+
+fn is_allowed_array(
+    alloc: Global,
+    program: &Program,
+    file: &ClassFile,
+    text: &[u16],
+) -> Result<bool, NoMemory>
+    ensures { IfOk result (λ b. b ≡ true → flat_map (no_access_class program.now file.now) (from [] desc_names (desc_of text.now)) ≡ []) }
+{
+    match desc(alloc, text)? {
+        Some(desc) => Ok(is_allowed_desc(program, file, &desc)),
+        None => Ok(true),
+    }
+}
+
+/// Whether a class item of that text isn't refused.
+#[tactic(auto, unfolding(crate::specs::Uses::no_access_item, crate::specs::Uses::no_access_class))]
+fn is_allowed(
+    alloc: Global,
+    program: &Program,
+    file: &ClassFile,
+    text: &[u16],
+) -> Result<bool, NoMemory>
+    ensures { IfOk result (λ b. b ≡ true → no_access_item program.now file.now text.now ≡ []) }
+{
+    if is_array(text) {
+        is_allowed_array(alloc, program, file, text)
+    } else {
+        Ok(!is_hidden_class(program, file, text))
+    }
+}
+
+/// Which texts of the file's pool aren't refused as those of classes.
+fn allowed_texts(alloc: Global, program: &Program, file: &ClassFile) -> Result<List<bool>, NoMemory>
+    ensures { IfOk result (λ allowed. AreRight (no_access_item program.now file.now) file.now.pool allowed) }
+{
+    let pool = file.pool.as_slice();
+    let mut allowed = List::new(alloc);
+    let count = pool.len().min(u16::MAX as usize) as u16;
+    for index in 0..count {
+        allowed.push(is_allowed(alloc, program, file, text(pool, index))?)?;
+    }
+    Ok(allowed)
+}
+
+/// The class of the class item at an index.
+fn check_item(
+    alloc: Global,
+    program: &Program,
+    file: &ClassFile,
+    allowed: &[bool],
+    index: u16,
+) -> Result<(), LinkErr>
+    requires allowed { AreRight (no_access_item program.now file.now) file.now.pool allowed.now }
+    ensures { IsAnswer (no_access_item program.now file.now (class_text file.now.pool index)) result }
+{
+    let pool = file.pool.as_slice();
+    match told_class(allowed, pool, index) {
+        Some(true) => Ok(()),
+        _ => check_text(alloc, program, file, class_text(pool, index)),
+    }
+}
+
+/// The class of a member item.
+fn check_owner(
+    alloc: Global,
+    program: &Program,
+    file: &ClassFile,
+    allowed: &[bool],
+    item: u16,
+) -> Result<(), LinkErr>
+    requires allowed { AreRight (no_access_item program.now file.now) file.now.pool allowed.now }
+    ensures { IsAnswer (no_access_item program.now file.now (member_in file.now.pool item).class) result }
+{
+    let pool = file.pool.as_slice();
+    match told_owner(allowed, pool, item) {
+        Some(true) => Ok(()),
+        _ => check_text(alloc, program, file, member(pool, item).class),
     }
 }
 
@@ -204,10 +307,12 @@ fn check_op(
     number: u32,
     file: &ClassFile,
     items: &[Option<Found>],
+    allowed: &[bool],
     op: &Op,
 ) -> Result<(), LinkErr>
     requires inside { number < length resolver.now }
     requires items { AreItems resolver.now file.now.pool items.now }
+    requires allowed { AreRight (no_access_item resolver.now file.now) file.now.pool allowed.now }
     ensures { IsAnswer (no_access_op resolver.now number file.now op.now) result }
 {
     let pool = file.pool.as_slice();
@@ -215,22 +320,20 @@ fn check_op(
     match op {
         Op::Static { op, item, .. } | Op::Field { op, item, .. } => {
             let m = member(pool, *item);
-            check_text(alloc, program, file, m.class)?;
+            check_owner(alloc, program, file, allowed, *item)?;
             let found = field_at(resolver, pool, items, *item);
             check_field(alloc, resolver, number, file, *op, &m, found)
         }
         Op::Invoke { item, .. } => {
             let m = member(pool, *item);
-            check_text(alloc, program, file, m.class)?;
+            check_owner(alloc, program, file, allowed, *item)?;
             let found = method_at(resolver, pool, items, *item);
             check_call(alloc, resolver, number, file, &m, found)
         }
         Op::New(item)
         | Op::AnewArray(item)
         | Op::Cast { item, .. }
-        | Op::MultiNewArray { item, .. } => {
-            check_text(alloc, program, file, class_text(pool, *item))
-        }
+        | Op::MultiNewArray { item, .. } => check_item(alloc, program, file, allowed, *item),
         _ => Ok(()),
     }
 }
@@ -242,14 +345,16 @@ fn check_ops(
     number: u32,
     file: &ClassFile,
     items: &[Option<Found>],
+    allowed: &[bool],
     ops: &[Placed],
 ) -> Result<(), LinkErr>
     requires inside { number < length resolver.now }
     requires items { AreItems resolver.now file.now.pool items.now }
+    requires allowed { AreRight (no_access_item resolver.now file.now) file.now.pool allowed.now }
     ensures { IsAnswer (flat_map (no_access_placed resolver.now number file.now) ops.now) result }
 {
     for placed in ops {
-        check_op(alloc, resolver, number, file, items, &placed.op)?;
+        check_op(alloc, resolver, number, file, items, allowed, &placed.op)?;
     }
     Ok(())
 }
@@ -259,19 +364,16 @@ fn check_entry(
     alloc: Global,
     program: &Program,
     file: &ClassFile,
+    allowed: &[bool],
     entry: &TableItem,
 ) -> Result<(), LinkErr>
+    requires allowed { AreRight (no_access_item program.now file.now) file.now.pool allowed.now }
     ensures { IsAnswer (no_access_entry program.now file.now entry.now) result }
 {
     if entry.class == 0 {
         Ok(())
     } else {
-        check_text(
-            alloc,
-            program,
-            file,
-            class_text(file.pool.as_slice(), entry.class),
-        )
+        check_item(alloc, program, file, allowed, entry.class)
     }
 }
 
@@ -280,12 +382,14 @@ fn check_table(
     alloc: Global,
     program: &Program,
     file: &ClassFile,
+    allowed: &[bool],
     table: &[TableItem],
 ) -> Result<(), LinkErr>
+    requires allowed { AreRight (no_access_item program.now file.now) file.now.pool allowed.now }
     ensures { IsAnswer (flat_map (no_access_entry program.now file.now) table.now) result }
 {
     for entry in table {
-        check_entry(alloc, program, file, entry)?;
+        check_entry(alloc, program, file, allowed, entry)?;
     }
     Ok(())
 }
@@ -297,16 +401,18 @@ fn check_method(
     number: u32,
     file: &ClassFile,
     items: &[Option<Found>],
+    allowed: &[bool],
     method: &MethodItem,
     code: &Option<Code>,
 ) -> Result<(), LinkErr>
     requires code { code.now ≡ code_of file.now.pool method.now }
     requires inside { number < length resolver.now }
     requires items { AreItems resolver.now file.now.pool items.now }
+    requires allowed { AreRight (no_access_item resolver.now file.now) file.now.pool allowed.now }
     ensures { IsAnswer (no_access_in resolver.now number file.now method.now) result }
 {
-    check_ops(alloc, resolver, number, file, items, ops(code))?;
-    check_table(alloc, resolver.program(), file, table(method))
+    check_ops(alloc, resolver, number, file, items, allowed, ops(code))?;
+    check_table(alloc, resolver.program(), file, allowed, table(method))
 }
 
 #[tactic(auto, using(link_rules::proofs::Firsts::places_break), unfolding(crate::specs::Uses::no_access))]
@@ -322,10 +428,12 @@ fn check_file(
     ensures { IsAnswer (no_access resolver.now number file.now) result }
 {
     let items = file_items(alloc, resolver, file)?;
+    let allowed = allowed_texts(alloc, resolver.program(), file)?;
+    let (found, allowed) = (items.as_slice(), allowed.as_slice());
     let methods = file.methods.as_slice();
     for i in 0..methods.len() {
-        let found = items.as_slice();
-        check_method(alloc, resolver, number, file, found, &methods[i], &codes[i])?;
+        let (method, code) = (&methods[i], &codes[i]);
+        check_method(alloc, resolver, number, file, found, allowed, method, code)?;
     }
     Ok(())
 }

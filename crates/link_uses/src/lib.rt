@@ -6,6 +6,7 @@ mod flags;
 mod items;
 mod kinds;
 mod lookup;
+mod marks;
 mod missing;
 mod owned;
 mod walk;
