@@ -1,0 +1,3 @@
+pub mod Segments
+pub mod Stacks
+pub mod Running
