@@ -1,14 +1,14 @@
 -- A thread's last segment is the one at its last place.
-use Rattle.std.proofs.Common.{◌≡◌, ◌∙◌, sym, subst, ◌+◌, ◌-◌, refl, ap, ℕ, zero, suc, ◌<◌, ◌||◌, Bool, true, false, List, [], ◌∷◌, length, drop, None, inl, inr, slice_set, arith}
-use Rattle.std.specs.Prelude.{get_or, slice_get}
+use Rattle.std.proofs.Common.{◌≡◌, ◌∙◌, sym, subst, ◌+◌, ◌-◌, refl, ap, ℕ, zero, suc, ◌<◌, ◌||◌, Bool, true, false, List, [], ◌∷◌, length, drop, None, inl, inr, slice_set, arith, Option, Some}
+use Rattle.std.specs.Prelude.{get_or, slice_get, OnSome}
 use Rattle.std.specs.List.{list_any, remove}
 use Rattle.std.proofs.lemmas.Bool.{cases_Bool}
 use Rattle.std.proofs.lemmas.Option.{slice_get-get_or}
 use Rattle.jvm_base.specs.Words.{from}
 use Rattle.jvm_base.specs.declared.frame.Level.{Level}
-use Rattle.thread_stacks.specs.Segments.{is_too_deep}
+use Rattle.thread_stacks.specs.Segments.{is_too_deep, top_of}
 use Rattle.thread_stacks.specs.Running.LastPlaces.{is_at, IsLastPlace, IsLastAt, HasNone}
-use Rattle.thread_stacks.specs.Stacks.{is_of, has_one, last_of, last_changed, last_gone, pushes_too_deep}
+use Rattle.thread_stacks.specs.Stacks.{is_of, has_one, last_of, last_changed, last_gone, pushes_too_deep, top_level}
 use Rattle.thread_stacks.specs.declared.segment.Segment.{Segment}
 
 -- a test of what stands from a place on is one of the item there and of what stands behind it
@@ -125,3 +125,21 @@ pub judged_there : (t : ℕ) (l : Level) {ss items seen : List Segment} {i : ℕ
 judged_there t l {ss} {items} {seen} {i} s p a b e =
     let r : IsLastAt t items i = subst (λ xs. IsLastAt t xs i) a p in
     rw (sym b) (rw r.last (rw (slice_get-get_or items i s r.within) (ap (λ x. is_too_deep l x) (sym e))))
+
+-- its top level is the thread's
+pub top_there : (t : ℕ) {ss items seen : List Segment} {i : ℕ} (s : Segment) → IsLastAt t ss i → ss ≡ items → items ≡ seen → s ≡ get_or items i s → top_level t seen ≡ top_of s.levels
+top_there t {ss} {items} {seen} {i} s p a b e =
+    let r : IsLastAt t items i = subst (λ xs. IsLastAt t xs i) a p in
+    rw (sym b) (rw r.last (rw (slice_get-get_or items i s r.within) (ap (λ x. top_of x.levels) (sym e))))
+
+-- what stands at a place may be put there again
+pub set_again : {A : Type 0} (xs : List A) (i : ℕ) (x : A) → x ≡ get_or xs i x → slice_set xs i x ≡ xs
+set_again [] zero x e = refl
+set_again [] (suc i) x e = refl
+set_again (y ∷ xs) zero x e = ap (λ z. z ∷ xs) e
+set_again (y ∷ xs) (suc i) x e = ap (λ zs. y ∷ zs) (set_again xs i x e)
+
+-- what holds is said of an option too
+pub said_of : {A : Type 0} (r : Option A) (P : Type 0) → P → OnSome r P
+said_of None P p = tt
+said_of (Some x) P p = p

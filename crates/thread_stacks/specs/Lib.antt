@@ -1,3 +1,4 @@
 pub mod Segments
 pub mod Stacks
 pub mod Running
+pub mod Lending

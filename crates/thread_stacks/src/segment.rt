@@ -1,8 +1,10 @@
 //! A segment of a thread's stack.
 
-ghost use Rattle.std.specs.Prelude.{◌≡◌, ◌<◌, ◌+◌, ◌^◌, ◌&&◌, OnOk, OnErr, length, take, slice_set};
+ghost use Rattle.std.specs.Prelude.{◌≡◌, ◌<◌, ◌+◌, ◌^◌, ◌&&◌, OnOk, OnErr, IsSome, IfSome, Some, ◌↔◌, length, take, slice_set};
 ghost use Rattle.std.specs.List.{list_any, count_by};
 ghost use Rattle.std.specs.Option.{option_copied};
+ghost use Rattle.std.specs.Borrow.{sem};
+ghost use Rattle.thread_stacks.specs.Lending.{lends_top};
 ghost use Rattle.thread_stacks.specs.Segments.{begun, counted, with_level, without_top, with_top, top_of, is_code, is_init_of, is_too_deep, depth};
 
 use jvm_base::{Level, List, Name, NoMemory};
@@ -114,5 +116,15 @@ impl Segment {
         ensures rest { self.new ≡ without_top self.old }
     {
         self.levels.pop()
+    }
+
+    /// The top level, to be changed there.
+    pub(crate) fn top(&mut self) -> Option<&mut Level>
+        ensures* writes_back { sem 𝓛 (lends_top self.entry result) }
+        ensures variant { IsSome result ↔ IsSome (top_of self.old.levels) }
+        ensures value { IfSome result (λ l. top_of self.old.levels ≡ Some l.now) }
+    {
+        let place = self.levels.len().saturating_sub(1);
+        self.levels.get_mut(place)
     }
 }

@@ -1,9 +1,11 @@
 //! The segments of a node.
 
-ghost use Rattle.std.specs.Prelude.{◌≡◌, [], ◌∷◌, ◌++◌, ◌↔◌, ◌<◌, ◌≤◌, ◌+◌, ◌^◌, true, false, IsTrue, OnOk, OnErr, IfErr, IsOk, MatchOption, length, drop};
+ghost use Rattle.std.specs.Prelude.{◌≡◌, [], ◌∷◌, ◌++◌, ◌↔◌, ◌<◌, ◌≤◌, ◌+◌, ◌^◌, true, false, IsTrue, OnOk, OnErr, IfErr, IsOk, IsSome, IfSome, Some, MatchOption, length, drop};
 ghost use Rattle.std.specs.List.{list_any};
 ghost use Rattle.std.specs.Option.{option_copied};
 ghost use Rattle.thread_stacks.specs.declared.error.StackErr.TheVariants.{TooDeep};
+ghost use Rattle.std.specs.Borrow.{sem};
+ghost use Rattle.thread_stacks.specs.Lending.{lends_top_level};
 ghost use Rattle.thread_stacks.specs.Running.LastPlaces.{is_at, IsLastPlace, IsLastAt, HasNone};
 ghost use Rattle.thread_stacks.specs.Segments.{begun, counted, with_level, without_top, is_init_of};
 ghost use Rattle.thread_stacks.specs.Stacks.{is_of, has_one, last_of, last_changed, last_gone, top_level, pushes_too_deep, initialises, CanCount};
@@ -146,6 +148,16 @@ impl Stacks {
     {
         let place = last_place(self.segments.as_slice(), thread)?;
         self.segments[place].pop()
+    }
+
+    /// The thread's top level here, to be changed there; `None` exactly where `pop` would answer it.
+    pub fn top(&mut self, thread: u32) -> Option<&mut Level>
+        ensures* writes_back { sem 𝓛 (lends_top_level self.entry thread result) }
+        ensures variant { IsSome result ↔ IsSome (top_level thread self.old.items) }
+        ensures value { IfSome result (λ l. top_level thread self.old.items ≡ Some l.now) }
+    {
+        let place = last_place(self.segments.as_slice(), thread)?;
+        self.segments[place].top()
     }
 
     /// Whether the thread initialises the class in a segment here.
