@@ -3,50 +3,30 @@
 
 Each class has methods with code that name members of other classes. The programs link and aren't thin, so
 each run answers 14. Prints the time a class, net of the time of one small class, as the least of several
-runs. Usage: bench/linking.py (the program is built by ./cjvm).
+runs. Behind them come hostile programs, of files that make a rule compare or read much again and again; of
+these it prints the time a megabyte. Usage: bench/linking.py (the program is built by ./cjvm).
 """
+import math
 import os
 import struct
 import tempfile
 
+from linked import ABSTRACT, INTERFACE, MAIN, OBJECT, PUBLIC, STATIC, SUPER, Pool, method
 from program import CJVM, least_time, need_programs
 
-PUBLIC, STATIC, SUPER, INTERFACE, ABSTRACT = 1, 8, 0x20, 0x200, 0x400
 COUNTS = (10, 100, 1000)
 USES = 20
+METHOD_LIMIT = 65000
+LONG_NAME = b"L" * 65000
 
 
-class Pool:
-    """The pool of a class file, each item once."""
-
-    def __init__(self):
-        self.items = []
-
-    def add(self, item):
-        if item not in self.items:
-            self.items.append(item)
-        return self.items.index(item) + 1
-
-    def text(self, word):
-        return self.add(b"\x01" + struct.pack(">H", len(word)) + word)
-
-    def named(self, tag, word):
-        return self.add(struct.pack(">BH", tag, self.text(word)))
-
-    def pair(self, tag, first, second):
-        return self.add(struct.pack(">BHH", tag, first, second))
-
-    def member(self, tag, owner, name, desc):
-        pair = self.pair(12, self.text(name), self.text(desc))
-        return self.pair(tag, self.named(7, owner), pair)
+def declared(pool, flags, name, desc):
+    """A method without code."""
+    return struct.pack(">HHHH", flags, pool.text(name), pool.text(desc), 0)
 
 
-def method(pool, flags, name, code=None):
-    head = struct.pack(">HHH", flags, pool.text(name), pool.text(b"()V"))
-    if code is None:
-        return head + b"\x00\x00"
-    contents = struct.pack(">HHI", 2, 1, len(code)) + code + bytes(4)
-    return head + struct.pack(">HHI", 1, pool.text(b"Code"), len(contents)) + contents
+def main_method(pool):
+    return method(pool, b"main", MAIN, b"\xb1")
 
 
 def class_file(name, above, interfaces, flags, other):
@@ -56,16 +36,19 @@ def class_file(name, above, interfaces, flags, other):
     listed = [pool.named(7, word) for word in interfaces]
     fields, methods = [], []
     if flags & INTERFACE:
-        methods.append(method(pool, PUBLIC | ABSTRACT, b"m"))
+        methods.append(declared(pool, PUBLIC | ABSTRACT, b"m", b"()V"))
     else:
         fields.append(struct.pack(">HHHH", PUBLIC | STATIC, pool.text(b"f"), pool.text(b"I"), 0))
         field = pool.member(9, other, b"f", b"I")
         call = pool.member(10, other, b"m", b"()V")
         uses = struct.pack(">BHBBH", 178, field, 87, 184, call) * USES + b"\xb1"
-        methods.append(method(pool, PUBLIC | STATIC, b"m", uses))
-        main = method(pool, PUBLIC | STATIC, b"main", b"\xb1")
-        desc = struct.pack(">H", pool.text(b"([Ljava/lang/String;)V"))
-        methods.append(main[:4] + desc + main[6:])
+        methods.append(method(pool, b"m", b"()V", uses))
+        methods.append(main_method(pool))
+    return joined(pool, flags, this, over, listed, fields, methods)
+
+
+def joined(pool, flags, this, over, listed, fields, methods):
+    """The file of a class whose items are all in the pool."""
     parts = [b"\xca\xfe\xba\xbe\x00\x00\x00\x2e", struct.pack(">H", len(pool.items) + 1), *pool.items]
     parts.append(struct.pack(">HHHH", flags, this, over, len(listed)))
     parts.append(struct.pack(f">{len(listed)}H", *listed))
@@ -85,11 +68,11 @@ def plain(number, above, interfaces, count):
 
 
 def flat(count):
-    return [plain(i, b"java/lang/Object", [], count) for i in range(count)]
+    return [plain(i, OBJECT, [], count) for i in range(count)]
 
 
 def chain(count):
-    above = [b"java/lang/Object"] + [name_of(i) for i in range(count)]
+    above = [OBJECT] + [name_of(i) for i in range(count)]
     return [plain(i, above[i], [], count) for i in range(count)]
 
 
@@ -99,10 +82,67 @@ def diamond(count):
     for number in range(count - 1):
         extended = [b"p/I%d" % k for k in (number - number % 2 - 2, number - number % 2 - 1) if k >= 0]
         name = b"p/I%d" % number
-        files.append(class_file(name, b"java/lang/Object", extended, PUBLIC | INTERFACE | ABSTRACT, b""))
+        files.append(class_file(name, OBJECT, extended, PUBLIC | INTERFACE | ABSTRACT, b""))
         listed = [name]
-    return [class_file(b"p/C0", b"java/lang/Object", listed, PUBLIC | SUPER, b"p/C0")] + files
+    return [class_file(b"p/C0", OBJECT, listed, PUBLIC | SUPER, b"p/C0")] + files
 
+
+# Hostile programs.
+
+
+def signatures(count):
+    """So many names and descriptors, of few texts."""
+    side = math.isqrt(count - 1) + 1
+    descs = []
+    for number in range(side):
+        args = b""
+        while number > 0:
+            args, number = args + b"IJBCSZ"[number % 6 : number % 6 + 1], number // 6
+        descs.append(b"(" + args + b"I)V")
+    return [(b"m%d" % (k // side), descs[k % side]) for k in range(count)]
+
+
+def holder(name, above, members=(), uses=None, flags=PUBLIC | ABSTRACT):
+    """A class that declares those abstract methods, and one with the code that `uses` gives."""
+    pool = Pool()
+    methods = [declared(pool, flags, called, desc) for called, desc in members]
+    methods.append(main_method(pool))
+    if uses is not None:
+        methods.append(method(pool, b"uses", b"()V", uses(pool)))
+    this, over = pool.named(7, name), pool.named(7, above)
+    return joined(pool, PUBLIC | SUPER | ABSTRACT, this, over, [], [], methods)
+
+
+def overridden(count, methods, flags=PUBLIC | ABSTRACT, package=b"p/"):
+    """A chain of classes, each of which declares the same methods."""
+    above = [OBJECT] + [package + b"C%d" % k for k in range(count)]
+    members = signatures(methods)
+    return [holder(above[k + 1], above[k], members, None, flags) for k in range(count)]
+
+
+def long_named(uses):
+    """A class whose code uses a class of a long name in each instruction."""
+    return [holder(b"p/C0", OBJECT, (), uses), holder(LONG_NAME, OBJECT)]
+
+
+def casts(pool):
+    cast = struct.pack(">BBH", 1, 192, pool.named(7, LONG_NAME)) + b"\x57"
+    return cast * 13000 + b"\xb1"
+
+
+def calls(pool):
+    call = b"\x01" + struct.pack(">BH", 184, pool.member(10, LONG_NAME, b"main", MAIN))
+    return call * 13000 + b"\xb1"
+
+
+HOSTILE = (
+    ("2 classes of 65,000 methods, all overridden", lambda: overridden(2, METHOD_LIMIT)),
+    ("10 classes of 65,000 methods, all overridden", lambda: overridden(10, METHOD_LIMIT)),
+    ("1,000 classes of 1,000 methods, all overridden", lambda: overridden(1000, 1000)),
+    ("100 classes of a long package, 100 methods", lambda: overridden(100, 100, ABSTRACT, b"P" * 30000 + b"/")),
+    ("13,000 casts to a class of a long name", lambda: long_named(casts)),
+    ("13,000 calls in a class of a long name", lambda: long_named(calls)),
+)
 
 KINDS = (("a flat set", flat), ("a chain", chain), ("a diamond of interfaces", diamond))
 
@@ -128,6 +168,11 @@ def main():
                 took = least_time([CJVM, "run", *written(folder, files)], 14)
                 net = max(took - small, 0) / count * 1e6
                 print(f"{name:24} {count:5} classes, {size:8} bytes: {took * 1000:8.2f} ms, {net:7.1f} us a class")
+        for name, make in HOSTILE:
+            files = make()
+            size = sum(map(len, files))
+            took = least_time([CJVM, "run", *written(folder, files)], 14, None)
+            print(f"{name:48} {size:8} bytes: {took * 1000:9.2f} ms, {took * 1e9 / size:7.1f} ms a megabyte")
 
 
 main()
