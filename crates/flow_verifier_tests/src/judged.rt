@@ -1,6 +1,6 @@
 //! What is found of a program.
 
-ghost use Rattle.std.specs.Prelude.{◌↔◌, ◌≤◌, length, IsTrue, All, IfOk, ◌×◌};
+ghost use Rattle.std.specs.Prelude.{◌↔◌, ◌≤◌, length, IsTrue, All, IfOk};
 ghost use Rattle.class_format.specs.Meaning.{IsClass};
 ghost use Rattle.flow_types.specs.Tree.{superclasses, IsTree};
 ghost use Rattle.acceptance.specs.Accepted.{AreVerifiable};
