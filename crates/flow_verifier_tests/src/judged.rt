@@ -5,7 +5,7 @@ ghost use Rattle.class_format.specs.Meaning.{IsClass};
 ghost use Rattle.flow_types.specs.Tree.{superclasses, IsTree};
 ghost use Rattle.acceptance.specs.Accepted.{AreVerifiable};
 
-use acceptance::{linked_is_verifiable, verify_all};
+use acceptance::verify_all;
 use class_format::{ClassFile, well_formed};
 use class_link::link;
 use flow_verifier::VerifyErr;
@@ -34,7 +34,6 @@ pub(crate) fn linked(alloc: Global, files: &List<ClassFile>, main: &Units) -> Re
     ensures fine { IfOk result (λ image. AreVerifiable image) }
 {
     let image = link(alloc, files, main)?;
-    linked_is_verifiable();
     Ok(image)
 }
 
