@@ -104,17 +104,22 @@ const MEMBERS: &[u8; 43] =
     b"\x00!\x00\x02\x00\x04\x00\x00\x00\x00\x00\x02\x00\x09\x00\x05\x00\x06\x00\x01\x00\x07\x00\x00\
     \x00\x0d\x00\x00\x00\x01\x00\x00\x00\x01\xb1\x00\x00\x00\x00\x00\x09\x00\x08";
 
+/// The length of a short text or code as a byte.
+fn length_of(bytes: &[u8]) -> u8 {
+    u8::try_from(bytes.len()).unwrap_or(0)
+}
+
 /// The file of such a class, of version 46.
 pub fn small_file(alloc: Global, class: Small<'_>) -> Result<Vec<u8>, AllocError> {
-    let code = class.code.len() as u8;
+    let code = length_of(class.code);
     let mut file = Vec::from_slice(alloc, b"\xca\xfe\xba\xbe\x00\x00\x00.\x00".as_slice())?;
-    file.extend_from_slice(&[10 + class.count, 1, 0, 1, class.name[0]])?;
+    file.extend_from_slice(&[class.count.wrapping_add(10), 1, 0, 1, class.name[0]])?;
     file.extend_from_slice(NAMES.as_slice())?;
-    file.extend_from_slice(&[1, 0, class.desc.len() as u8])?;
+    file.extend_from_slice(&[1, 0, length_of(class.desc)])?;
     file.extend_from_slice(class.desc)?;
     file.extend_from_slice(class.items)?;
     file.extend_from_slice(MEMBERS.as_slice())?;
-    file.extend_from_slice(&[0, 9, 0, 1, 0, 7, 0, 0, 0, 12 + code])?;
+    file.extend_from_slice(&[0, 9, 0, 1, 0, 7, 0, 0, 0, code.wrapping_add(12)])?;
     file.extend_from_slice(&[0, class.max_stack, 0, class.max_locals, 0, 0, 0, code])?;
     file.extend_from_slice(class.code)?;
     file.extend_from_slice(&[0, 0, 0, 0, 0, 0])?;
