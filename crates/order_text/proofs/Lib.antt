@@ -1,1 +1,7 @@
+mod FaultLaws
+mod Fronts
+mod LineLaws
+mod Numerals
+mod OneReading
+mod Reading
 mod Writing

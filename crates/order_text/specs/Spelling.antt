@@ -1,6 +1,7 @@
 -- The text of an order. The grammar is this project's own.
 use Rattle.std.specs.Prelude.{◌≡◌, ◌<◌, ◌^◌, ℕ, List, [], ◌∷◌, ◌++◌, map, codes, decimal}
 use Rattle.std.specs.List.{concat, AllByRecursion}
+use Rattle.jvm_base.specs.declared.name.Name.{Name}
 use Rattle.machine_state.specs.declared.state.Choice.{Choice}
 
 -- ---- bytes
@@ -31,11 +32,13 @@ end_line = codes "end\n"
 abbrev pub field : ℕ → ℕ → List ℕ
 field n behind = decimal n ++ behind ∷ []
 
--- thread and pick, each with a space behind it, and the name with dots between its parts
+-- a name, dots between its parts, at the end of a line
+abbrev pub name_end : Name → List ℕ
+name_end n = concat (field n.node dot ∷ field n.class dot ∷ field n.index line_end ∷ [])
+
+-- thread and pick, each with a space behind it, and the name
 abbrev pub choice_line : Choice → List ℕ
-choice_line c =
-    concat (field c.thread space ∷ field c.pick space
-    ∷ field c.name.node dot ∷ field c.name.class dot ∷ field c.name.index line_end ∷ [])
+choice_line c = concat (field c.thread space ∷ field c.pick space ∷ name_end c.name ∷ [])
 
 -- a line for each choice, between the first and the last
 abbrev pub order_lines : List Choice → List (List ℕ)
@@ -47,17 +50,21 @@ order_text order = concat (order_lines order)
 
 -- ---- what has a text
 
--- the class of a name
+-- a class's number has 24 bits
 abbrev pub HasClass : Choice → Type 0
 HasClass c = c.name.class < 2 ^ 24
+
+-- a name's numbers are in range
+pub record IsName (n : Name) : Type 0 where
+  pub node : n.node < 2 ^ 8
+  pub class : n.class < 2 ^ 24
+  pub index : n.index < 2 ^ 32
 
 -- a choice's numbers are in range
 pub record IsChoice (c : Choice) : Type 0 where
   pub thread : c.thread < 2 ^ 32
   pub pick : c.pick < 2 ^ 32
-  pub node : c.name.node < 2 ^ 8
-  pub class : HasClass c
-  pub index : c.name.index < 2 ^ 32
+  pub name : IsName c.name
 
 -- choices that have a line
 abbrev pub AreChoices : List Choice → Type 0

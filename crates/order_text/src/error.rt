@@ -6,7 +6,7 @@ ghost use Rattle.order_text.specs.declared.error.OrderErr.TheVariants.{NoMemory 
 use jvm_base::NoMemory;
 use thiserror::Error;
 
-/// Why no order is read. The line counts from 1: with it the text stops to begin as an order's does.
+/// Why no order is read. The line counts from 1: with it the text stops to begin as an order's.
 #[derive(Clone, Copy, Debug, PartialEq, Eq, Error)]
 pub enum OrderErr {
     /// The text is no order's.
