@@ -6,8 +6,7 @@ use Rattle.std.proofs.lemmas.Bool.{cases_Bool}
 use Rattle.std.proofs.lemmas.Option.{slice_get_past}
 use Rattle.jvm_base.specs.declared.name.Name.{Name}
 use Rattle.cluster_monitor.specs.declared.monitors.Request.{Request}
-use Rattle.cluster_monitor.specs.Monitors.{is_for, first_for, without_first}
-use Rattle.cluster_monitor.specs.Running.FirstPlaces.{IsFirstAt}
+use Rattle.cluster_monitor.specs.Monitors.{is_for, first_for, without_first, IsFirstAt}
 
 -- one place further on in a longer list
 get_more : {A : Type 0} (x : A) (xs : List A) (i : ℕ) → slice_get (x ∷ xs) (1 + i) ≡ slice_get xs i

@@ -1,2 +1,1 @@
 pub mod Monitors
-pub mod Running

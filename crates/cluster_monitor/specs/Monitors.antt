@@ -1,5 +1,6 @@
 -- The monitors of a node: who owns each, how often, and who is queued for one.
-use Rattle.std.specs.Prelude.{◌≡◌, ◌<◌, ◌^◌, ℕ, ◌+◌, ◌-◌, ◌==◌, nat_le, Bool, true, false, not, if◌then◌else◌, List, [], ◌∷◌, ◌++◌, Option, Some, None, is_some}
+use Rattle.std.specs.Prelude.{◌≡◌, ◌<◌, ◌^◌, ℕ, ◌+◌, ◌-◌, ◌==◌, nat_le, Bool, true, false, not, if◌then◌else◌, List, [], ◌∷◌, ◌++◌, Option, Some, None, is_some, length, slice_get}
+use Rattle.std.specs.List.{remove}
 use Rattle.std.specs.Map.{lookup}
 use Rattle.jvm_base.specs.Names.{name_eq}
 use Rattle.jvm_base.specs.declared.name.Name.{Name}
@@ -79,6 +80,12 @@ first_for n (q ∷ qs) = if is_for n q then Some q else first_for n qs
 abbrev pub without_first : Name → List Request → List Request
 without_first n [] = []
 without_first n (q ∷ qs) = if is_for n q then qs else q ∷ without_first n qs
+
+-- where that one stands
+pub record IsFirstAt (n : Name) (qs : List Request) (i : ℕ) : Type 0 where
+  pub within : i < length qs
+  pub first : first_for n qs ≡ slice_get qs i
+  pub rest : without_first n qs ≡ remove qs i
 
 -- the request for it that can be performed: the first one, where nobody owns it
 abbrev pub next_for : Name → Monitors → Option Request

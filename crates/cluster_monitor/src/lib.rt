@@ -3,4 +3,4 @@
 
 mod monitors;
 
-pub use monitors::{Entered, Held, Monitors, NotOwner, Request};
+pub use monitors::{Entered, Held, Monitors, NotOwner, Request, first_place};

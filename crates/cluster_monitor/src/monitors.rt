@@ -2,10 +2,9 @@
 
 ghost use Rattle.std.specs.Prelude.{◌≡◌, [], ◌∷◌, ◌++◌, ◌↔◌, ◌<◌, ◌≤◌, ◌+◌, true, false, IsTrue, OnOk, OnErr, IfOk, IsOk, IsSome, IfSome, OnSome, Some, None, option_map, is_ok, is_some, MatchOption, length, slice_get};
 ghost use Rattle.std.specs.List.{remove, position};
-ghost use Rattle.cluster_monitor.specs.Running.FirstPlaces.{IsFirstAt};
 ghost use Rattle.std.specs.Option.{option_copied};
 ghost use Rattle.jvm_base.specs.Names.{name_eq};
-ghost use Rattle.cluster_monitor.specs.Monitors.{owner_at, owned, is_owner, is_others, count_of, entered, left, request, is_for, first_for, without_first, next_for, IsOwnedBy, Enters, CanCount};
+ghost use Rattle.cluster_monitor.specs.Monitors.{owner_at, owned, is_owner, is_others, count_of, entered, left, request, is_for, first_for, without_first, next_for, IsFirstAt, IsOwnedBy, Enters, CanCount};
 
 use indexmap::IndexMap;
 use jvm_base::{Name, NoMemory};
@@ -61,16 +60,16 @@ impl Model for Monitors {
     ghost invariant = { λ a. vec_len a.queue ≤ spare a.owners };
 }
 
-/// Where the first request for the monitor stands.
+/// The place of the first of the requests for the monitor.
 fn place_of(queue: &[Request], name: Name) -> Option<usize>
     ensures { result ≡ position (is_for name) queue.now }
 {
     queue.iter().position(|request| request.name == name)
 }
 
-/// The same, with what it says of the requests.
+/// Where the first of the requests for the monitor stands; `None` exactly where there is none.
 #[tactic(auto, using(crate::proofs::QueueLaws::is_first_at, crate::proofs::QueueLaws::has_none))]
-fn first_place(queue: &[Request], name: Name) -> Option<usize>
+pub fn first_place(queue: &[Request], name: Name) -> Option<usize>
     ensures { MatchOption result (first_for name queue.now ≡ None) (IsFirstAt name queue.now) }
 {
     place_of(queue, name)
@@ -124,7 +123,11 @@ impl Monitors {
             return Ok(Entered::Entered);
         };
         if held.owner != thread {
-            self.request(name, thread, 1)?;
+            self.request(Request {
+                name,
+                thread,
+                count: 1,
+            })?;
             return Ok(Entered::Queued);
         }
         let count = held.count.checked_add(1).ok_or(NoMemory)?;
@@ -168,21 +171,17 @@ impl Monitors {
         }
     }
 
-    /// Queues a thread that is to own the monitor so many times.
-    pub fn request(&mut self, name: Name, thread: u32, count: u64) -> Result<(), NoMemory>
+    /// Adds a request as the last one.
+    pub fn request(&mut self, request: Request) -> Result<(), NoMemory>
         ensures owners { self.new.items.owners ≡ self.old.items.owners }
         ensures ok { OnOk result
-            (self.new.items.queue ≡ self.old.items.queue ++ request name thread count ∷ []) }
+            (self.new.items.queue ≡ self.old.items.queue ++ request ∷ []) }
         ensures err { OnErr result (self.new.items.queue ≡ self.old.items.queue) }
         ensures succeeds { 0 < self.old.room → IsOk result }
         ensures room { self.old.room ≤ self.new.room + 1 }
     {
         self.reserve(1)?;
-        self.queue.push(Request {
-            name,
-            thread,
-            count,
-        })?;
+        self.queue.push(request)?;
         Ok(())
     }
 
