@@ -2,8 +2,9 @@ import java.util.function.IntBinaryOperator;
 import java.util.function.LongBinaryOperator;
 
 /**
- * Prints the rows of crates/frame_ops_tests/src/numbers.rt and of the comparisons in branches.rt, with
- * the values that Java computes. Run `java tools/FrameValues.java`; the rows were copied once.
+ * Prints rows of crates/frame_ops_tests with the values that Java computes: those of numbers.rt,
+ * of jumps by ints in branches.rt, and of increments in operands.rt. Run
+ * `java tools/FrameValues.java`; its rows were copied once.
  */
 public class FrameValues {
     static final int[] INTS = {
@@ -64,8 +65,10 @@ public class FrameValues {
             {0, -1}, {7, 0}, {0, 0}
         };
         for (int[] p : ints) {
-            System.out.println(p[0] + " " + p[1] + " idiv -> " + result((int a, int b) -> a / b, p[0], p[1]));
-            System.out.println(p[0] + " " + p[1] + " irem -> " + result((int a, int b) -> a % b, p[0], p[1]));
+            System.out.println(
+                p[0] + " " + p[1] + " idiv -> " + result((int a, int b) -> a / b, p[0], p[1]));
+            System.out.println(
+                p[0] + " " + p[1] + " irem -> " + result((int a, int b) -> a % b, p[0], p[1]));
         }
         long[][] longs = {
             {7, 2}, {-7, 2}, {7, -2}, {-7, -2}, {Long.MIN_VALUE, -1},
@@ -164,7 +167,8 @@ public class FrameValues {
 
     static void branches() {
         int[][] pairs = {
-            {3, 3}, {Integer.MIN_VALUE, Integer.MAX_VALUE}, {Integer.MAX_VALUE, Integer.MIN_VALUE}, {-1, 0}
+            {3, 3}, {Integer.MIN_VALUE, Integer.MAX_VALUE},
+            {Integer.MAX_VALUE, Integer.MIN_VALUE}, {-1, 0}
         };
         for (int[] p : pairs) {
             String front = p[0] + " " + p[1] + " if_icmp";

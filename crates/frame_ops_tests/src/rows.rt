@@ -1,8 +1,14 @@
-//! Rows of tables. A row is locals with `|` behind them, if any, then operands, the newest last, an
-//! instruction with its bytes, and what the program tells or the instruction is answered, if
-//! anything; then ` -> ` and what comes of it. That is the locals, if any were given, and the operands,
-//! and `to` with the address where control jumped; or the fault; or what else comes next; `on` is
-//! nothing of all that. Lines without an arrow are comments.
+//! Rows of tables: `1 2 iadd -> 3`. A row is
+//!
+//! - locals with `|` behind them, if any, as in `7 @1 | iload_0 -> 7 @1 | 7`;
+//! - operands, the newest last;
+//! - an instruction with its bytes in hexadecimal, as `bipush.80`;
+//! - what the program tells, as `fits`, `fails` or a constant, or the answer that is put, if any;
+//! - ` -> ` and what comes of it: the locals, if any were given, and the operands, then `to` with the
+//!   address where control jumped, or `on` where there is nothing of that; or the fault; or what the
+//!   frame asks, calls, throws or leaves with.
+//!
+//! Lines without an arrow are comments.
 
 ghost use Rattle.frame_ops.specs.Stepping.{IsRising};
 ghost use Rattle.frame_ops_tests.specs.Room.{HasRoom};

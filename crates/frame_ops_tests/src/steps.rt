@@ -55,40 +55,24 @@ fn has_operands(op: &Op, locals: &List<Value>, stack: &Operands) -> bool
 {
     let (top, second) = (stack.get(0), stack.get(1));
     match op {
-        Op::Arith(op) => is_number(*op, top) && is_number(*op, second),
-        Op::Divide(op) => is_number(*op, top) && is_number(*op, second),
-        Op::Bits(op) => is_number(*op, top) && is_number(*op, second),
+        Op::Arith(op) | Op::Divide(op) | Op::Bits(op) => {
+            is_number(*op, top) && is_number(*op, second)
+        }
         Op::Shift(op) => is_int(top) && is_number(*op, second),
-        Op::Negate(_) => is_int(top) || is_long(top),
-        Op::Resize(_) => is_int(top) || is_long(top),
+        Op::Negate(_) | Op::Resize(_) => is_int(top) || is_long(top),
         Op::Lcmp => is_long(top) && is_long(second),
-        Op::IfZero { op: _, to: _ } => is_int(top),
-        Op::IfInts { op: _, to: _ } => is_int(top) && is_int(second),
-        Op::IfRefs { op: _, to: _ } => second.is_some(),
-        Op::IfNull { op: _, to: _ } => top.is_some(),
-        Op::TableSwitch {
-            other: _,
-            low: _,
-            high: _,
-            to: _,
-        } => is_int(top),
-        Op::LookupSwitch { other: _, pairs: _ } => is_int(top),
-        Op::Store { op: _, local: _ } => top.is_some(),
-        Op::Iinc { local, by: _ } => is_int(locals.get(*local as usize).copied()),
-        Op::Cast { op: _, item: _ } => top.is_some(),
+        Op::IfInts { .. } => is_int(top) && is_int(second),
+        Op::IfZero { .. } | Op::TableSwitch { .. } | Op::LookupSwitch { .. } => is_int(top),
+        Op::IfNull { .. } | Op::Store { .. } | Op::Cast { .. } => top.is_some(),
+        Op::IfRefs { .. } => second.is_some(),
+        Op::Iinc { local, .. } => is_int(locals.get(*local as usize).copied()),
         Op::ArrayLoad(_) => is_reference(second),
         Op::ArrayStore(_) => is_reference(stack.get(2)),
-        Op::ArrayLength => is_reference(top),
-        Op::Athrow => is_reference(top),
-        Op::Monitor(_) => is_reference(top),
-        Op::Field {
-            op,
-            item: _,
-            desc: _,
-        } => { is_reference(if *op == opcode::GETFIELD { top } else { second }) }
-        Op::Invoke { op, item: _, desc } => {
-            *op == opcode::INVOKESTATIC || is_reference(stack.get(desc.get().args.len() as u32))
-        }
+        Op::ArrayLength | Op::Athrow | Op::Monitor(_) => is_reference(top),
+        Op::Field { op, .. } if *op == opcode::GETFIELD => is_reference(top),
+        Op::Field { .. } => is_reference(second),
+        Op::Invoke { op, .. } if *op == opcode::INVOKESTATIC => true,
+        Op::Invoke { desc, .. } => is_reference(stack.get(desc.get().args.len() as u32)),
         _ => true,
     }
 }
@@ -97,11 +81,7 @@ fn has_few_arguments(op: &Op) -> bool
     ensures { IsTrue result → HasFewArguments op.now }
 {
     match op {
-        Op::Invoke {
-            op: _,
-            item: _,
-            desc,
-        } => desc.get().args.len() <= 255,
+        Op::Invoke { desc, .. } => desc.get().args.len() <= 255,
         _ => true,
     }
 }
@@ -135,21 +115,13 @@ fn operand_count(op: &Op) -> u32
     match op {
         Op::ArrayLoad(_) => 2,
         Op::ArrayStore(_) => 3,
-        Op::Static {
-            op,
-            item: _,
-            desc: _,
-        } => { if *op == opcode::GETSTATIC { 0 } else { 1 } }
-        Op::Field {
-            op,
-            item: _,
-            desc: _,
-        } => { if *op == opcode::GETFIELD { 1 } else { 2 } }
-        Op::Invoke { op, item: _, desc } => {
+        Op::Static { op, .. } => { if *op == opcode::GETSTATIC { 0 } else { 1 } }
+        Op::Field { op, .. } => { if *op == opcode::GETFIELD { 1 } else { 2 } }
+        Op::Invoke { op, desc, .. } => {
             desc.get().args.len() as u32 + if *op == opcode::INVOKESTATIC { 0 } else { 1 }
         }
         Op::New(_) => 0,
-        Op::MultiNewArray { item: _, dims } => u32::from(*dims),
+        Op::MultiNewArray { dims, .. } => u32::from(*dims),
         _ => 1,
     }
 }
