@@ -123,25 +123,15 @@ new.0006 @9 -> @9
 ";
 
 #[test]
-fn on_arrays(rt: HostRuntime) -> Result<(), Fail> {
-    assert_eq!(rt; wrong_row(rt.alloc(), ARRAYS, Run::Alone)?, None);
+fn faults_and_requests(rt: HostRuntime) -> Result<(), Fail> {
+    for table in [ARRAYS, OBJECTS, WAYS] {
+        assert_eq!(rt; wrong_row(rt.alloc(), table, Run::Alone)?, None);
+    }
     Ok(())
 }
 
 #[test]
-fn on_objects(rt: HostRuntime) -> Result<(), Fail> {
-    assert_eq!(rt; wrong_row(rt.alloc(), OBJECTS, Run::Alone)?, None);
-    Ok(())
-}
-
-#[test]
-fn calling_and_leaving(rt: HostRuntime) -> Result<(), Fail> {
-    assert_eq!(rt; wrong_row(rt.alloc(), WAYS, Run::Alone)?, None);
-    Ok(())
-}
-
-#[test]
-fn once_answered(rt: HostRuntime) -> Result<(), Fail> {
+fn answers(rt: HostRuntime) -> Result<(), Fail> {
     assert_eq!(rt; wrong_row(rt.alloc(), ANSWERED, Run::Answered)?, None);
     Ok(())
 }

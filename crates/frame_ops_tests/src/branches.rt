@@ -121,25 +121,17 @@ const SWITCHES: &str = "
 ";
 
 #[test]
-fn by_ints(rt: HostRuntime) -> Result<(), Fail> {
-    assert_eq!(rt; wrong_row(rt.alloc(), INTS, Run::Alone)?, None);
+fn branches(rt: HostRuntime) -> Result<(), Fail> {
+    for table in [INTS, REFERENCES] {
+        assert_eq!(rt; wrong_row(rt.alloc(), table, Run::Alone)?, None);
+    }
     Ok(())
 }
 
 #[test]
-fn by_references(rt: HostRuntime) -> Result<(), Fail> {
-    assert_eq!(rt; wrong_row(rt.alloc(), REFERENCES, Run::Alone)?, None);
-    Ok(())
-}
-
-#[test]
-fn to_places(rt: HostRuntime) -> Result<(), Fail> {
-    assert_eq!(rt; wrong_row(rt.alloc(), PLACES, Run::Alone)?, None);
-    Ok(())
-}
-
-#[test]
-fn by_tables(rt: HostRuntime) -> Result<(), Fail> {
-    assert_eq!(rt; wrong_row(rt.alloc(), SWITCHES, Run::Alone)?, None);
+fn places_and_switches(rt: HostRuntime) -> Result<(), Fail> {
+    for table in [PLACES, SWITCHES] {
+        assert_eq!(rt; wrong_row(rt.alloc(), table, Run::Alone)?, None);
+    }
     Ok(())
 }

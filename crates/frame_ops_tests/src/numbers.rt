@@ -266,49 +266,25 @@ const COMPARISONS: &str = "
 ";
 
 #[test]
-fn adding(rt: HostRuntime) -> Result<(), Fail> {
-    assert_eq!(rt; wrong_row(rt.alloc(), SUMS, Run::Alone)?, None);
+fn arithmetic(rt: HostRuntime) -> Result<(), Fail> {
+    for table in [SUMS, PRODUCTS, QUOTIENTS, NEGATIONS] {
+        assert_eq!(rt; wrong_row(rt.alloc(), table, Run::Alone)?, None);
+    }
     Ok(())
 }
 
 #[test]
-fn multiplying(rt: HostRuntime) -> Result<(), Fail> {
-    assert_eq!(rt; wrong_row(rt.alloc(), PRODUCTS, Run::Alone)?, None);
+fn shifts_and_bits(rt: HostRuntime) -> Result<(), Fail> {
+    for table in [SHIFTS, BITS] {
+        assert_eq!(rt; wrong_row(rt.alloc(), table, Run::Alone)?, None);
+    }
     Ok(())
 }
 
 #[test]
-fn dividing(rt: HostRuntime) -> Result<(), Fail> {
-    assert_eq!(rt; wrong_row(rt.alloc(), QUOTIENTS, Run::Alone)?, None);
-    Ok(())
-}
-
-#[test]
-fn negating(rt: HostRuntime) -> Result<(), Fail> {
-    assert_eq!(rt; wrong_row(rt.alloc(), NEGATIONS, Run::Alone)?, None);
-    Ok(())
-}
-
-#[test]
-fn shifting(rt: HostRuntime) -> Result<(), Fail> {
-    assert_eq!(rt; wrong_row(rt.alloc(), SHIFTS, Run::Alone)?, None);
-    Ok(())
-}
-
-#[test]
-fn bit_by_bit(rt: HostRuntime) -> Result<(), Fail> {
-    assert_eq!(rt; wrong_row(rt.alloc(), BITS, Run::Alone)?, None);
-    Ok(())
-}
-
-#[test]
-fn converting(rt: HostRuntime) -> Result<(), Fail> {
-    assert_eq!(rt; wrong_row(rt.alloc(), CONVERSIONS, Run::Alone)?, None);
-    Ok(())
-}
-
-#[test]
-fn comparing_longs(rt: HostRuntime) -> Result<(), Fail> {
-    assert_eq!(rt; wrong_row(rt.alloc(), COMPARISONS, Run::Alone)?, None);
+fn conversions_and_order(rt: HostRuntime) -> Result<(), Fail> {
+    for table in [CONVERSIONS, COMPARISONS] {
+        assert_eq!(rt; wrong_row(rt.alloc(), table, Run::Alone)?, None);
+    }
     Ok(())
 }

@@ -111,31 +111,17 @@ const MOVES: &str = "
 ";
 
 #[test]
-fn pushing(rt: HostRuntime) -> Result<(), Fail> {
-    assert_eq!(rt; wrong_row(rt.alloc(), CONSTANTS, Run::Alone)?, None);
+fn constants_and_moves(rt: HostRuntime) -> Result<(), Fail> {
+    for table in [CONSTANTS, MOVES] {
+        assert_eq!(rt; wrong_row(rt.alloc(), table, Run::Alone)?, None);
+    }
     Ok(())
 }
 
 #[test]
-fn loading(rt: HostRuntime) -> Result<(), Fail> {
-    assert_eq!(rt; wrong_row(rt.alloc(), LOADS, Run::Alone)?, None);
-    Ok(())
-}
-
-#[test]
-fn storing(rt: HostRuntime) -> Result<(), Fail> {
-    assert_eq!(rt; wrong_row(rt.alloc(), STORES, Run::Alone)?, None);
-    Ok(())
-}
-
-#[test]
-fn incrementing(rt: HostRuntime) -> Result<(), Fail> {
-    assert_eq!(rt; wrong_row(rt.alloc(), INCREMENTS, Run::Alone)?, None);
-    Ok(())
-}
-
-#[test]
-fn moving(rt: HostRuntime) -> Result<(), Fail> {
-    assert_eq!(rt; wrong_row(rt.alloc(), MOVES, Run::Alone)?, None);
+fn local_variables(rt: HostRuntime) -> Result<(), Fail> {
+    for table in [LOADS, STORES, INCREMENTS] {
+        assert_eq!(rt; wrong_row(rt.alloc(), table, Run::Alone)?, None);
+    }
     Ok(())
 }
