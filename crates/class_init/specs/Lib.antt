@@ -1,0 +1,3 @@
+pub mod Classes
+pub mod Histories
+pub mod Running
