@@ -7,7 +7,7 @@ use Rattle.std.proofs.lemmas.List.Folds.{find_at}
 use Rattle.std.proofs.lemmas.Option.{slice_get_past}
 use Rattle.class_init.specs.declared.classes.ClassRequest.{ClassRequest}
 use Rattle.class_init.specs.Classes.{is_for}
-use Rattle.class_init.specs.Running.{IsFirstAt, HasNone}
+use Rattle.class_init.specs.Running.FirstPlaces.{IsFirstAt, HasNone}
 
 -- nothing is taken from past the end
 remove_past : {A : Type 0} (xs : List A) (i : ℕ) → length xs ≤ i → remove xs i ≡ xs

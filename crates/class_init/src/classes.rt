@@ -6,7 +6,7 @@ ghost use Rattle.std.specs.Option.{option_copied};
 ghost use Rattle.machine_state.specs.declared.state.ClassState.TheVariants as state;
 ghost use Rattle.class_init.specs.declared.classes.Asked.TheVariants as answer;
 ghost use Rattle.class_init.specs.Classes.{state_of, becomes, is_running, is_run_by, first_states, request, is_for, first_for, without_first, next_for, woken, answer_to, told, asked, places};
-ghost use Rattle.class_init.specs.Running.{IsFirstAt, HasNone};
+ghost use Rattle.class_init.specs.Running.FirstPlaces.{IsFirstAt, HasNone};
 
 use jvm_base::NoMemory;
 use machine_state::ClassState;

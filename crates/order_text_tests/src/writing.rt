@@ -5,44 +5,35 @@ use machine_state::{Choice, Order};
 use order_text::write_order;
 use std::test::Fail;
 
-/// A choice, and its line.
-const LINES: [(Choice, &[u8]); 2] = [
-    (
-        Choice {
-            thread: 0,
-            pick: 1,
-            name: Name {
-                node: 2,
-                class: 30,
-                index: 405,
-            },
-        },
-        b"0 1 2.30.405\n",
-    ),
-    (
-        Choice {
-            thread: 4_294_967_295,
-            pick: 4_294_967_295,
-            name: Name {
-                node: 255,
-                class: 16_777_215,
-                index: 4_294_967_295,
-            },
-        },
-        b"4294967295 4294967295 255.16777215.4294967295\n",
-    ),
-];
+const EACH_OTHER: Choice = Choice {
+    thread: 0,
+    pick: 1,
+    name: Name {
+        node: 2,
+        class: 30,
+        index: 405,
+    },
+};
+
+const EACH_GREATEST: Choice = Choice {
+    thread: 4_294_967_295,
+    pick: 4_294_967_295,
+    name: Name {
+        node: 255,
+        class: 16_777_215,
+        index: 4_294_967_295,
+    },
+};
+
+const TEXT: &[u8] =
+    b"cjvm-order 1\n0 1 2.30.405\n4294967295 4294967295 255.16777215.4294967295\nend\n";
 
 #[test]
-fn writes_each_line(rt: HostRuntime) -> Result<(), Fail> {
+fn writes_each_number_at_its_place(rt: HostRuntime) -> Result<(), Fail> {
     let mut order = Order::new(rt.alloc());
-    let mut wanted = Vec::from_slice(rt.alloc(), b"cjvm-order 1\n")?;
-    for (choice, line) in LINES {
-        order.push(choice)?;
-        wanted.extend_from_slice(line)?;
-    }
-    wanted.extend_from_slice(b"end\n")?;
+    order.push(EACH_OTHER)?;
+    order.push(EACH_GREATEST)?;
     let text = write_order(rt.alloc(), &order)?;
-    assert!(rt; text.as_slice() == wanted.as_slice());
+    assert!(rt; text.as_slice() == TEXT);
     Ok(())
 }
