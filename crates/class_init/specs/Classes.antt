@@ -83,7 +83,7 @@ answer_to t state.Failed = answer.Failed
 abbrev pub told : ℕ → ℕ → Classes → Option Asked
 told t c m = option_map (answer_to t) (state_of c m)
 
--- the classes once it was told so: it initialises the class, or is queued for it, or all is as it was
+-- the classes once it was told so: it initialises the class, or is queued, or all is as it was
 abbrev pub asked : ℕ → ℕ → Classes → Asked → Classes
 asked t c m answer.Proceed = m
 asked t c m answer.Run = becomes c (state.Running t) m

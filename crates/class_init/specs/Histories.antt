@@ -6,7 +6,7 @@ use Rattle.class_init.specs.Classes.{Classes, becomes, woken, told, asked}
 use Rattle.class_init.specs.declared.classes.Asked.{Asked}
 use Rattle.class_init.specs.declared.classes.Asked.TheVariants as answer
 
--- a thread asks for a class; its initialiser ends well, or fails; one that is queued for it is woken
+-- a thread asks for a class; its initialiser ends well, or fails; one queued for it is woken
 pub data Call : Type 0 where
   Ask : ℕ → ℕ → Call
   Done : ℕ → Call

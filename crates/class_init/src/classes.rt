@@ -112,8 +112,8 @@ impl Classes {
         self.states.get(class as usize).copied()
     }
 
-    /// The thread asks for the class: it is to run the initialiser where the class is untouched, and
-    /// is queued where another thread runs it. Memory can run out only where it is queued.
+    /// The thread asks for the class: it is to run the initialiser where the class is untouched,
+    /// and is queued where another thread runs it. Memory can run out only where it is queued.
     pub fn ask(&mut self, class: u32, thread: u32) -> Result<Asked, NoMemory>
         requires { class < length self.old.items.states }
         ensures answer { IfOk result (λ a. told thread class self.old.items ≡ Some a) }
