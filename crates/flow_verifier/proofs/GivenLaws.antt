@@ -290,8 +290,8 @@ module _ (p : Program) (tree : IsTree (superclasses p)) (m : Method) (im : IsMet
   there-edges : (i : ℕ) (q : Option Placed) → slice_get (ops_of p m.number) i ≡ q → AreEdges (edges_there (ops_of p m.number) m.handlers i q)
   there-edges i None e = tt
   there-edges i (Some o) e =
-      append-edges (fall_edges (length (ops_of p m.number)) i o) _ (falls-edges i o)
-      (append-edges (jump_edges (ops_of p m.number) (jumps o.op)) _ (jumps-edges (jumps o.op) (λ k at h. im.targets i k at o e h)) (table-edges o.at m.handlers im.handlers))
+      append-edges (map catching (filter (covers o.at) m.handlers)) _ (table-edges o.at m.handlers im.handlers)
+      (append-edges (jump_edges (ops_of p m.number) (jumps o.op)) _ (jumps-edges (jumps o.op) (λ k at h. im.targets i k at o e h)) (falls-edges i o))
 
   all-edges : (i : ℕ) → AreEdges (edges p m i)
   unfolding edges

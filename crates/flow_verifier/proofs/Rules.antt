@@ -51,13 +51,6 @@ depth_after max rules ts broken e n = found (lowest rules) (λ f. n (e ∙ f))
     found None n = refl
     found (Some r) n = elim (eqb_tells r rule.MISSING) [ inl p ↦ absurd (n (ap Some (p.1))) | inr p ↦ rw (p.0) refl ]
 
--- the instruction at a place
-pub rules_at : (p : Program) (m : Method) (i : ℕ) (o : Placed) (w : Work) (r : Option ℕ) → i < length (ops_of p m.number) → o ≡ get_or (ops_of p m.number) i o → r ≡ lowest (op_rules p m i o w) → r ≡ lowest (rules_there p m i (slice_get (ops_of p m.number) i) w)
-rules_at p m i o w r lt e h = rw (slice_get-get_or (ops_of p m.number) i o lt, sym e) h
-
-pub next_at : (p : Program) (m : Method) (i : ℕ) (o : Placed) (w v : Work) → i < length (ops_of p m.number) → o ≡ get_or (ops_of p m.number) i o → v ≡ next (site_of p m.number) (row_at p m o) w → v ≡ next_there p m (slice_get (ops_of p m.number) i) w
-next_at p m i o w v lt e h = rw (slice_get-get_or (ops_of p m.number) i o lt, sym e) h
-
 -- the row of each instruction stands at its place
 pub row_there : (p : Program) (m : Method) (rows : List Row) (i : ℕ) (o : Placed) (r : Row) → rows ≡ map (row_at p m) (ops_of p m.number) → slice_get (ops_of p m.number) i ≡ Some o → slice_get rows i ≡ Some r → r ≡ row_at p m o
 row_there p m rows i o r e f g =

@@ -143,13 +143,13 @@ is_caught (Caught to class) = true
 abbrev pub catching : Handler → Edge
 catching h = Caught h.to h.class
 
--- where an instruction leads, if it is there
+-- where an instruction leads, if it is there: to its handlers, by jumps, and to the one behind it
 abbrev pub edges_there : List Placed → List Handler → ℕ → Option Placed → List Edge
 edges_there ops handlers i None = []
 edges_there ops handlers i (Some o) =
-    fall_edges (length ops) i o
+    map catching (filter (covers o.at) handlers)
     ++ (jump_edges ops (jumps o.op)
-    ++ map catching (filter (covers o.at) handlers))
+    ++ fall_edges (length ops) i o)
 
 -- the successors and the handlers of an instruction, by place
 unfoldable pub edges : Program → Method → ℕ → List Edge

@@ -2,7 +2,7 @@
 
 ghost use Rattle.std.specs.Prelude.{◌≡◌, ◌<◌, ◌^◌, ◌++◌, ◌∷◌, [], ℕ, length, map, filter, nat_le, nat_lt, slice_get, IfOk, OnOk, Some};
 ghost use Rattle.instruction_table.specs.Rows.{jumps, falls};
-ghost use Rattle.flow_verifier.specs.Methods.{ops_of, place_of, IsMethod};
+ghost use Rattle.flow_verifier.specs.Methods.{ops_of, place_of, IsMethod, Rises};
 ghost use Rattle.flow_verifier.specs.Given.{jump_edges, fall_edges, covers, catching, edges_there, edges};
 
 use crate::method::{Edge, Handler, Method, ops_of, place_of};
@@ -24,7 +24,7 @@ fn push_fall(out: &mut List<Edge>, count: usize, i: u32, placed: &Placed) -> Res
 
 fn push_jump(out: &mut List<Edge>, ops: &[Placed], to: u32) -> Result<(), NoMemory>
     requires few { length ops.now < 2 ^ 32 }
-    requires rising { (i j : ℕ) (a b : Placed) → slice_get ops.now i ≡ Some a → slice_get ops.now j ≡ Some b → i < j → a.at < b.at }
+    requires rising { Rises ops.now }
     ensures { OnOk result (out.new ≡ out.old ++ jump_edges ops.now (to ∷ [])) }
 {
     out.push(Edge::Next(place_of(ops, to)))
@@ -32,7 +32,7 @@ fn push_jump(out: &mut List<Edge>, ops: &[Placed], to: u32) -> Result<(), NoMemo
 
 fn push_targets(out: &mut List<Edge>, ops: &[Placed], to: &[u32]) -> Result<(), NoMemory>
     requires few { length ops.now < 2 ^ 32 }
-    requires rising { (i j : ℕ) (a b : Placed) → slice_get ops.now i ≡ Some a → slice_get ops.now j ≡ Some b → i < j → a.at < b.at }
+    requires rising { Rises ops.now }
     ensures { OnOk result (out.new ≡ out.old ++ jump_edges ops.now to.now) }
 {
     for k in 0..to.len() {
@@ -43,7 +43,7 @@ fn push_targets(out: &mut List<Edge>, ops: &[Placed], to: &[u32]) -> Result<(), 
 
 fn push_pairs(out: &mut List<Edge>, ops: &[Placed], pairs: &[(i32, u32)]) -> Result<(), NoMemory>
     requires few { length ops.now < 2 ^ 32 }
-    requires rising { (i j : ℕ) (a b : Placed) → slice_get ops.now i ≡ Some a → slice_get ops.now j ≡ Some b → i < j → a.at < b.at }
+    requires rising { Rises ops.now }
     ensures { OnOk result (out.new ≡ out.old ++ jump_edges ops.now (map (λ p. p.1) pairs.now)) }
 {
     for k in 0..pairs.len() {
@@ -54,7 +54,7 @@ fn push_pairs(out: &mut List<Edge>, ops: &[Placed], pairs: &[(i32, u32)]) -> Res
 
 fn push_jumps(out: &mut List<Edge>, ops: &[Placed], op: &Op) -> Result<(), NoMemory>
     requires few { length ops.now < 2 ^ 32 }
-    requires rising { (i j : ℕ) (a b : Placed) → slice_get ops.now i ≡ Some a → slice_get ops.now j ≡ Some b → i < j → a.at < b.at }
+    requires rising { Rises ops.now }
     ensures { OnOk result (out.new ≡ out.old ++ jump_edges ops.now (jumps op.now)) }
 {
     match op {
@@ -100,7 +100,9 @@ fn push_handlers(out: &mut List<Edge>, handlers: &[Handler], at: u32) -> Result<
     Ok(())
 }
 
-/// The successors and the handlers of the instruction at a place.
+/// The handlers and the successors of the instruction at a place. The list of what is still to do is
+/// worked from its end, so that the instruction behind this one comes before the others: a place at
+/// which ways meet mostly waits until what falls through to it has come.
 #[tactic(auto, unfolding(crate::specs::Given::edges))]
 pub(crate) fn edges_of(
     alloc: Global,
@@ -114,9 +116,9 @@ pub(crate) fn edges_of(
     let ops = ops_of(image, m.number);
     let mut out = List::new(alloc);
     if let Some(placed) = ops.get(i as usize) {
-        push_fall(&mut out, ops.len(), i, placed)?;
-        push_jumps(&mut out, ops, &placed.op)?;
         push_handlers(&mut out, m.handlers.as_slice(), placed.at)?;
+        push_jumps(&mut out, ops, &placed.op)?;
+        push_fall(&mut out, ops.len(), i, placed)?;
     }
     Ok(out)
 }

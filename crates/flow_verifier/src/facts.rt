@@ -26,7 +26,8 @@ pub(crate) struct Facts {
 /// The row of each instruction.
 fn rows(alloc: Global, image: &Image, m: &Method) -> Result<List<Row>, NoMemory>
     requires within { m.now.number < length image.now.methods }
-    ensures { IfOk result (λ rows. rows ≡ map (row_at image.now m.now) (ops_of image.now m.now.number)) }
+    ensures { IfOk result (λ rows. rows
+        ≡ map (row_at image.now m.now) (ops_of image.now m.now.number)) }
 {
     let ops = ops_of(image, m.number);
     let mut rows = List::new(alloc);
@@ -40,7 +41,8 @@ fn rows(alloc: Global, image: &Image, m: &Method) -> Result<List<Row>, NoMemory>
 fn flag(image: &Image, bad: &mut List<bool>, handler: &Handler)
     requires there { handler.now.to < length bad.old }
     ensures long { length bad.new ≡ length bad.old }
-    ensures flags { (i : ℕ) → flag_at bad.new i ≡ (flag_at bad.old i || is_bad_at image.now i handler.now) }
+    ensures flags { (i : ℕ) → flag_at bad.new i
+        ≡ (flag_at bad.old i || is_bad_at image.now i handler.now) }
 {
     if !is_sub(image, handler.class, THROWABLE) {
         bad.set(handler.to as usize, true);
@@ -50,7 +52,8 @@ fn flag(image: &Image, bad: &mut List<bool>, handler: &Handler)
 /// For each place whether a handler there catches a class that isn't thrown.
 fn bad_places(alloc: Global, image: &Image, m: &Method) -> Result<List<bool>, NoMemory>
     requires fine { IsMethod image.now m.now }
-    ensures { IfOk result (λ bad. (i : ℕ) → flag_at bad i ≡ list_any (is_bad_at image.now i) m.now.handlers) }
+    ensures { IfOk result (λ bad. (i : ℕ) → flag_at bad i
+        ≡ list_any (is_bad_at image.now i) m.now.handlers) }
 {
     let mut bad = no_flags(alloc, ops_of(image, m.number).len())?;
     let handlers = m.handlers.as_slice();

@@ -57,7 +57,8 @@ struct Worked {
 /// The rule on the depth after an instruction, which no missing operand leaves undefined.
 #[tactic(auto, using(crate::proofs::Rules::no_depth, crate::proofs::Rules::depth_after))]
 fn after_rule(broken: Option<u8>, stack: &Stack, max: u32) -> Option<u8>
-    ensures { (rules : Rules ℕ) → broken ≡ lowest rules → result ≡ lowest (after_rules max rules stack.now) }
+    ensures { (rules : Rules ℕ) → broken ≡ lowest rules → result
+        ≡ lowest (after_rules max rules stack.now) }
 {
     if broken == Some(rule::MISSING) {
         None
@@ -86,7 +87,8 @@ fn lowest_of(
     after: Option<u8>,
     last: Option<u8>,
 ) -> Option<u8>
-    ensures { (a b c d : Rules ℕ) → before ≡ lowest a → broken ≡ lowest b → after ≡ lowest c → last ≡ lowest d → result ≡ lowest (a ++ (b ++ (c ++ d))) }
+    ensures { (a b c d : Rules ℕ) → before ≡ lowest a → broken ≡ lowest b → after ≡ lowest c
+        → last ≡ lowest d → result ≡ lowest (a ++ (b ++ (c ++ d))) }
 {
     lower(before, lower(broken, lower(after, last)))
 }
@@ -106,7 +108,8 @@ fn work_on(
     requires count { count ≡ length (ops_of image.now m.now.number) }
     requires place { i < count }
     ensures rule { IfOk result (λ w. w.rule ≡ lowest (op_rules image.now m.now i placed.now work)) }
-    ensures work { IfOk result (λ w. w.work ≡ next (site_of image.now m.now.number) (row_at image.now m.now placed.now) work) }
+    ensures work { IfOk result (λ w. w.work
+        ≡ next (site_of image.now m.now.number) (row_at image.now m.now placed.now) work) }
 {
     let before = depth_rule(&work.stack, m.max_stack);
     let broken = work.run(image, m.number, row)?;
@@ -158,8 +161,10 @@ fn work_there(
 ) -> Result<Worked, NoMemory>
     requires within { m.now.number < length image.now.methods }
     requires known { IsKnown image.now m.now facts.now }
-    ensures rule { IfOk result (λ w. w.rule ≡ lowest (rules_there image.now m.now i (slice_get (ops_of image.now m.now.number) i) work)) }
-    ensures work { IfOk result (λ w. w.work ≡ next_there image.now m.now (slice_get (ops_of image.now m.now.number) i) work) }
+    ensures rule { IfOk result (λ w. w.rule
+        ≡ lowest (rules_there image.now m.now i (slice_get (ops_of image.now m.now.number) i) work)) }
+    ensures work { IfOk result (λ w. w.work
+        ≡ next_there image.now m.now (slice_get (ops_of image.now m.now.number) i) work) }
 {
     let ops = ops_of(image, m.number);
     match ops.get(i) {
@@ -184,7 +189,8 @@ fn work_at(
     requires within { m.now.number < length image.now.methods }
     requires known { IsKnown image.now m.now facts.now }
     ensures rule { IfOk result (λ w. w.rule ≡ lowest (open_rules image.now m.now i f.now)) }
-    ensures work { IfOk result (λ w. w.work ≡ next_there image.now m.now (slice_get (ops_of image.now m.now.number) i) (work_of f.now)) }
+    ensures work { IfOk result (λ w. w.work
+        ≡ next_there image.now m.now (slice_get (ops_of image.now m.now.number) i) (work_of f.now)) }
 {
     let place = place_rule(image, m, facts, i);
     let worked = work_there(image, m, facts, i, begin(alloc, f)?)?;

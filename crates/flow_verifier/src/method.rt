@@ -57,7 +57,8 @@ pub(crate) fn ops_of(image: &Image, number: u32) -> &[Placed]
 /// The place of the instruction at an address.
 pub(crate) fn place_of(ops: &[Placed], at: u32) -> u32
     requires few { length ops.now < 2 ^ 32 }
-    requires rising { (i j : ℕ) (a b : Placed) → slice_get ops.now i ≡ Some a → slice_get ops.now j ≡ Some b → i < j → a.at < b.at }
+    requires rising { (i j : ℕ) (a b : Placed) → slice_get ops.now i ≡ Some a
+        → slice_get ops.now j ≡ Some b → i < j → a.at < b.at }
     ensures { result ≡ place_of ops.now at }
 {
     ops.partition_point(|placed| placed.at < at) as u32
@@ -167,8 +168,10 @@ fn handlers(
     requires within { number < length image.now.methods }
     requires small { length code.now.table < 65536 }
     requires few { length code.now.ops < 2 ^ 32 }
-    requires rising { (i j : ℕ) (a b : Placed) → slice_get code.now.ops i ≡ Some a → slice_get code.now.ops j ≡ Some b → i < j → a.at < b.at }
-    ensures { IfOk result (λ hs. hs ≡ handlers_from image.now number code.now.ops 0 code.now.table) }
+    requires rising { (i j : ℕ) (a b : Placed) → slice_get code.now.ops i ≡ Some a
+        → slice_get code.now.ops j ≡ Some b → i < j → a.at < b.at }
+    ensures { IfOk result (λ hs. hs
+        ≡ handlers_from image.now number code.now.ops 0 code.now.table) }
 {
     let mut handlers = List::new(alloc);
     let table = code.table.as_slice();
@@ -194,7 +197,8 @@ pub(crate) fn method_with(
     requires within { number < length image.now.methods }
     requires small { length code.now.table < 65536 }
     requires few { length code.now.ops < 2 ^ 32 }
-    requires rising { (i j : ℕ) (a b : Placed) → slice_get code.now.ops i ≡ Some a → slice_get code.now.ops j ≡ Some b → i < j → a.at < b.at }
+    requires rising { (i j : ℕ) (a b : Placed) → slice_get code.now.ops i ≡ Some a
+        → slice_get code.now.ops j ≡ Some b → i < j → a.at < b.at }
     ensures { IfOk result (λ m. m ≡ method_with image.now number code.now) }
 {
     let types = parameters(alloc, image, number)?;

@@ -115,7 +115,8 @@ impl Rising {
         requires marked { IsMarked self.old }
         ensures marked { IsMarked self.new }
         ensures frames { self.new.frames ≡ self.old.frames }
-        ensures todo { MatchOption result (self.old.todo ≡ []) (λ at. self.old.todo ≡ self.new.todo ++ at ∷ []) }
+        ensures todo { MatchOption result (self.old.todo ≡ []) (λ at. self.old.todo
+            ≡ self.new.todo ++ at ∷ []) }
     {
         let at = self.todo.pop()?;
         clear(&mut self.queued, at);
@@ -137,7 +138,8 @@ impl Rising {
         requires within { to < length self.old.frames }
         ensures marked { OnOk result (IsMarked self.new) }
         ensures frames { self.new.frames ≡ self.old.frames }
-        ensures todo { OnOk result ((self.new.todo ≡ self.old.todo ++ to ∷ []) ⊎ ((self.new.todo ≡ self.old.todo) × In to self.old.todo)) }
+        ensures todo { OnOk result ((self.new.todo ≡ self.old.todo ++ to ∷ []) ⊎ ((self.new.todo
+            ≡ self.old.todo) × In to self.old.todo)) }
     {
         if self.is_queued(to) {
             return Ok(());

@@ -52,7 +52,8 @@ fn rule_at(
 fn address_of(image: &Image, m: &Method, place: usize) -> u32
     requires within { m.now.number < length image.now.methods }
     requires place { place < length (ops_of image.now m.now.number) }
-    ensures { (o : Placed) → slice_get (ops_of image.now m.now.number) place ≡ Some o → result ≡ o.at }
+    ensures { (o : Placed) → slice_get (ops_of image.now m.now.number) place ≡ Some o → result
+        ≡ o.at }
 {
     ops_of(image, m.number)[place].at
 }
@@ -67,7 +68,9 @@ fn first_broken(
 ) -> Result<Option<Breach>, NoMemory>
     requires within { m.now.number < length image.now.methods }
     requires known { IsKnown image.now m.now facts.now }
-    ensures { IfOk result (λ o. MatchOption o (NoneBroken image.now m.now frames.now (length frames.now)) (λ e. IsFirst image.now m.now frames.now e.rule e.place)) }
+    ensures { IfOk result
+        (λ o. MatchOption o (NoneBroken image.now m.now frames.now (length frames.now))
+        (λ e. IsFirst image.now m.now frames.now e.rule e.place)) }
 {
     for place in 0..frames.len() {
         if let Some(rule) = rule_at(alloc, image, m, facts, frames, place)? {

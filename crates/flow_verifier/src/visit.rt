@@ -73,7 +73,8 @@ fn catcher(alloc: Global, f: &FlowFrame) -> Result<FlowFrame, NoMemory>
 /// The same, where one of the edges leads to a handler. Else it takes no memory.
 #[tactic(auto, using(crate::proofs::Visits::none_caught))]
 fn caught_for(alloc: Global, edges: &[Edge], f: &FlowFrame) -> Result<FlowFrame, NoMemory>
-    ensures { IfOk result (λ c. (k to class : ℕ) → slice_get edges.now k ≡ Some (Caught to class) → IsCatcher f.now c) }
+    ensures { IfOk result (λ c. (k to class : ℕ) → slice_get edges.now k
+        ≡ Some (Caught to class) → IsCatcher f.now c) }
 {
     if any_caught(edges) {
         catcher(alloc, f)
@@ -145,8 +146,11 @@ impl Rising {
         requires known { IsKnown image.now m.now facts.now }
         requires marked { IsMarked self.now }
         requires going { IsGoing image.now m.now self.now.frames (self.now.todo ++ at ∷ []) }
-        ensures at { IfOk result (λ o. MatchOption o (frame_at self.now.frames at ≡ None) (λ v. v.at ≡ at)) }
-        ensures visiting { IfOk result (λ o. MatchOption o (IsGoing image.now m.now self.now.frames self.now.todo) (λ v. IsVisiting image.now m.now v 0 self.now)) }
+        ensures at { IfOk result (λ o. MatchOption o (frame_at self.now.frames at ≡ None)
+            (λ v. v.at ≡ at)) }
+        ensures visiting { IfOk result
+            (λ o. MatchOption o (IsGoing image.now m.now self.now.frames self.now.todo)
+            (λ v. IsVisiting image.now m.now v 0 self.now)) }
     {
         match frame_at(&self.frames, at) {
             Some(f) => Ok(Some(flowing(alloc, image, m, facts, at, f)?)),
@@ -171,7 +175,9 @@ impl Rising {
         ensures at { visit.new.at ≡ visit.old.at }
         ensures edges { visit.new.edges ≡ visit.old.edges }
         ensures visiting { OnOk result (IsVisiting image.now m.now visit.new (k + 1) self.new) }
-        ensures falls { OnOk result ((w : ℕ → ℕ) → potential image.now m.now w self.new.frames self.new.todo ≤ potential image.now m.now w self.old.frames self.old.todo) }
+        ensures falls { OnOk result ((w : ℕ → ℕ)
+            → potential image.now m.now w self.new.frames self.new.todo
+            ≤ potential image.now m.now w self.old.frames self.old.todo) }
         ensures cost { steps.new ≤ steps.old + 1 }
     {
         match visit.edges.as_slice()[k] {
@@ -200,7 +206,9 @@ impl Rising {
         requires going { IsGoing image.now m.now self.old.frames (self.old.todo ++ at ∷ []) }
         ensures marked { OnOk result (IsMarked self.new) }
         ensures going { OnOk result (IsGoing image.now m.now self.new.frames self.new.todo) }
-        ensures falls { OnOk result ((w : ℕ → ℕ) → potential image.now m.now w self.new.frames self.new.todo ≤ potential image.now m.now w self.old.frames self.old.todo) }
+        ensures falls { OnOk result ((w : ℕ → ℕ)
+            → potential image.now m.now w self.new.frames self.new.todo
+            ≤ potential image.now m.now w self.old.frames self.old.todo) }
         ensures cost { steps.new ≤ steps.old + length (edges image.now m.now at) }
     {
         let Some(mut visit) = self.visit_of(alloc, image, m, facts, at)? else {
