@@ -100,9 +100,27 @@ fn push_handlers(out: &mut List<Edge>, handlers: &[Handler], at: u32) -> Result<
     Ok(())
 }
 
-/// The handlers and the successors of the instruction at a place. The list of what is still to do is
-/// worked from its end, so that the instruction behind this one comes before the others: a place at
-/// which ways meet mostly waits until what falls through to it has come.
+/// Adds the handlers and the successors of an instruction at a place. The list of what is still to do
+/// is worked from its end, so that the instruction behind this one comes before the others: a place
+/// at which ways meet mostly waits until what falls through to it has come.
+fn push_edges(
+    out: &mut List<Edge>,
+    ops: &[Placed],
+    handlers: &[Handler],
+    i: u32,
+    placed: &Placed,
+) -> Result<(), NoMemory>
+    requires few { length ops.now < 2 ^ 32 }
+    requires rising { Rises ops.now }
+    ensures { OnOk result
+        (out.new ≡ out.old ++ edges_there ops.now handlers.now i (Some placed.now)) }
+{
+    push_handlers(out, handlers, placed.at)?;
+    push_jumps(out, ops, &placed.op)?;
+    push_fall(out, ops.len(), i, placed)
+}
+
+/// The handlers and the successors of the instruction at a place.
 #[tactic(auto, unfolding(crate::specs::Given::edges))]
 pub(crate) fn edges_of(
     alloc: Global,
@@ -116,9 +134,7 @@ pub(crate) fn edges_of(
     let ops = ops_of(image, m.number);
     let mut out = List::new(alloc);
     if let Some(placed) = ops.get(i as usize) {
-        push_handlers(&mut out, m.handlers.as_slice(), placed.at)?;
-        push_jumps(&mut out, ops, &placed.op)?;
-        push_fall(&mut out, ops.len(), i, placed)?;
+        push_edges(&mut out, ops, m.handlers.as_slice(), i, placed)?;
     }
     Ok(out)
 }
