@@ -4,18 +4,15 @@ use Rattle.std.proofs.lemmas.Bool.Decides.{eqb_tells}
 use Rattle.jvm_base.specs.Words.{from}
 use Rattle.flow_types.specs.declared.flow_type.FlowType.{FlowType}
 use Rattle.instruction_table.specs.declared.rule.TheConstants as rule
-use Rattle.std.proofs.Common.{◌<◌, length}
-use Rattle.std.specs.Prelude.{get_or, slice_get, map}
+use Rattle.std.specs.Prelude.{slice_get, map}
 use Rattle.std.specs.Option.{option_map}
-use Rattle.std.proofs.lemmas.Option.{slice_get-get_or, slice_get-map}
+use Rattle.std.proofs.lemmas.Option.{slice_get-map}
 use Rattle.instruction_table.specs.declared.row.Row.{Row}
 use Rattle.code_table.specs.declared.code.Placed.{Placed}
 use Rattle.program_image.specs.Program.{Program}
-use Rattle.instruction_table.specs.Working.{site_of, next}
-use Rattle.instruction_table.specs.declared.work.Work.{Work}
 use Rattle.flow_verifier.specs.declared.method.Method.{Method}
 use Rattle.flow_verifier.specs.Methods.{ops_of}
-use Rattle.flow_verifier.specs.Given.{depth_rules, after_rules, row_at, op_rules, rules_there, next_there}
+use Rattle.flow_verifier.specs.Given.{depth_rules, after_rules, row_at}
 use Rattle.std.proofs.Common.{◌≡◌, ◌∙◌, sym, ap, inl, inr, ℕ, List, [], ◌∷◌, ◌++◌, Option, Some, None, true, false, refl}
 use Rattle.instruction_table.specs.LowestRule.{lower, lowest}
 use Rattle.instruction_table.specs.Working.{is_empty}
