@@ -10,6 +10,7 @@ use indexmap::IndexMap;
 use jvm_base::{Name, NoMemory};
 use std::alloc::Global;
 use std::marker::Model;
+use thiserror::Error;
 
 /// What came of entering a monitor: the thread owns it, or is queued for it.
 #[derive(Clone, Copy, Debug, PartialEq, Eq)]
@@ -19,7 +20,8 @@ pub enum Entered {
 }
 
 /// The thread doesn't own the monitor.
-#[derive(Clone, Copy, Debug, PartialEq, Eq)]
+#[derive(Clone, Copy, Debug, PartialEq, Eq, Error)]
+#[error("the thread doesn't own the monitor")]
 pub struct NotOwner;
 
 /// Who owns a monitor, and how often.
