@@ -15,10 +15,12 @@ use Rattle.jvm_base.specs.Names.{name_eq}
 use Rattle.jvm_base.specs.Words.{from}
 use Rattle.hierarchy.specs.Walks.{has}
 use Rattle.machine_state.specs.State.{State, owner_at, waiters_of}
-use Rattle.machine_state.specs.Requests.{Request, Wait}
+use Rattle.machine_state.specs.declared.request.Request.{Request}
+use Rattle.machine_state.specs.declared.request.Request.TheVariants.{Wait}
 use Rattle.machine_state.specs.Changes.{Change, Made, SetsField, SetsElement, SetsContent, Owned, Freed, Sleeps, Moved, MovedAll, Becomes, Started, Lost, Printed, change, changed, new_thread}
 use Rattle.machine_state.specs.Events.{Locks, LockEvent, Enters, Leaves, Waits, Notifies, NotifiesAll, Retakes, Told, told_by, onto, body_writes, writes}
-use Rattle.machine_state.specs.Deeds.{reads_of, Answer, Deed, events_of, quiet, locking}
+use Rattle.machine_state.specs.declared.request.Answer.{Answer}
+use Rattle.machine_state.specs.Deeds.{reads_of, Deed, events_of, quiet, locking}
 use Rattle.machine_state.specs.Serve.{pick_fits}
 use Rattle.machine_state.specs.Locks.{retakes, owned}
 use Rattle.machine_state.specs.Complete.{complete}

@@ -17,7 +17,9 @@ use Rattle.program_image.specs.Program.{Program}
 use Rattle.jvm_base.specs.Words.{from}
 use Rattle.program_image.specs.Buffers.{is_buffer}
 use Rattle.machine_state.specs.State.{State, owner_at, waiters_of}
-use Rattle.machine_state.specs.Requests.{Request, Get, Put, Load, Store, Len, Make, MakeText, Fault, Enter, Exit, Wait, Notify, NotifyAll, Begin, InitDone, InitFail, Start, Join, Finish, Buffer, Print, key_of, cell}
+use Rattle.machine_state.specs.declared.request.Request.{Request}
+use Rattle.machine_state.specs.declared.request.Request.TheVariants.{Get, Put, Load, Store, Len, Make, MakeText, Fault, Enter, Exit, Wait, Notify, NotifyAll, Begin, InitDone, InitFail, Start, Join, Finish, Buffer, Print}
+use Rattle.machine_state.specs.Requests.{key_of, cell}
 use Rattle.machine_state.specs.Events.{ElementOf, One}
 use Rattle.machine_state.specs.Changes.{SetsElement}
 use Rattle.machine_state.specs.Deeds.{Deed, faulted, reading, changing}

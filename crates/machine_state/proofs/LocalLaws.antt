@@ -15,7 +15,9 @@ use Rattle.hierarchy.specs.Walks.{has}
 use Rattle.program_image.specs.Buffers.{is_buffer}
 use Rattle.machine_state.specs.State.{State, Heap, body_at, owner_at, waiters_of}
 use Rattle.machine_state.specs.Events.{Place, FieldOf, ElementOf, ContentOf, Held, One, Content, one_held, part_in, held_at}
-use Rattle.machine_state.specs.Requests.{Request, Get, Put, Load, Store, Len, Make, MakeText, Fault, Enter, Exit, Wait, Notify, NotifyAll, Begin, InitDone, InitFail, Start, Join, Finish, Buffer, Print, Key, OfLock, OfClass, OfThreads, key_of, cell}
+use Rattle.machine_state.specs.declared.request.Request.{Request}
+use Rattle.machine_state.specs.declared.request.Request.TheVariants.{Get, Put, Load, Store, Len, Make, MakeText, Fault, Enter, Exit, Wait, Notify, NotifyAll, Begin, InitDone, InitFail, Start, Join, Finish, Buffer, Print}
+use Rattle.machine_state.specs.Requests.{Key, OfLock, OfClass, OfThreads, key_of, cell}
 use Rattle.machine_state.specs.Changes.{Made, SetsElement, Owned, Freed}
 use Rattle.machine_state.specs.Deeds.{Deed, faulted, reading, changing}
 use Rattle.machine_state.specs.Serve.{begins, by_runner, serve, fails, starts, joins, ends}

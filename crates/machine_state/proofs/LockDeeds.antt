@@ -14,10 +14,14 @@ use Rattle.program_image.specs.Program.{Program}
 use Rattle.jvm_base.specs.Words.{from}
 use Rattle.program_image.specs.Buffers.{is_buffer}
 use Rattle.machine_state.specs.State.{State, owner_at, waiters_of}
-use Rattle.machine_state.specs.Requests.{Request, Get, Put, Load, Store, Len, Make, MakeText, Fault, Enter, Exit, Wait, Notify, NotifyAll, Begin, InitDone, InitFail, Start, Join, Finish, Buffer, Print, key_of, cell}
+use Rattle.machine_state.specs.declared.request.Request.{Request}
+use Rattle.machine_state.specs.declared.request.Request.TheVariants.{Get, Put, Load, Store, Len, Make, MakeText, Fault, Enter, Exit, Wait, Notify, NotifyAll, Begin, InitDone, InitFail, Start, Join, Finish, Buffer, Print}
+use Rattle.machine_state.specs.Requests.{key_of, cell}
 use Rattle.machine_state.specs.Changes.{Change, Made, SetsElement, Owned, Freed, Sleeps, Moved, MovedAll, Becomes}
 use Rattle.machine_state.specs.Events.{Enters, Leaves, Waits, Notifies, NotifiesAll, FieldOf, ElementOf, One}
-use Rattle.machine_state.specs.Deeds.{Answer, Slept, Deed, faulted, locking, reading, changing}
+use Rattle.machine_state.specs.declared.request.Answer.{Answer}
+use Rattle.machine_state.specs.declared.request.Answer.TheVariants.{Slept}
+use Rattle.machine_state.specs.Deeds.{Deed, faulted, locking, reading, changing}
 use Rattle.machine_state.specs.Serve.{begins, by_runner, serve, fails, starts, joins, ends}
 use Rattle.machine_state.specs.Bodies.{get, put, load, store, len, buffer, element_at, takes_value}
 use Rattle.machine_state.specs.Making.{made_objects}

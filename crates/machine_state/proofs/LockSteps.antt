@@ -13,7 +13,7 @@ use Rattle.hierarchy.specs.Walks.{has}
 use Rattle.program_image.specs.Buffers.{is_buffer}
 use Rattle.machine_state.specs.State.{State, Owners, owner_at, waiters_of}
 use Rattle.machine_state.specs.Events.{Place, FieldOf, ElementOf, ContentOf, Held, Content, Event, Reads, Writes, Locks, LockEvent, Enters, Leaves, Waits, Notifies, NotifiesAll, Told, told_by, onto, item_writes, body_writes, writes_of, writes}
-use Rattle.machine_state.specs.Requests.{Request}
+use Rattle.machine_state.specs.declared.request.Request.{Request}
 use Rattle.machine_state.specs.Changes.{Change, Made, SetsField, SetsElement, SetsContent, Owned, Freed, Sleeps, Moved, MovedAll, Becomes, Started, Lost, Printed, change, changed}
 use Rattle.machine_state.specs.Deeds.{reads_of, Deed}
 use Rattle.machine_state.specs.Serve.{pick_fits}

@@ -14,8 +14,12 @@ use Rattle.program_image.specs.Program.{Program}
 use Rattle.jvm_base.specs.Words.{from}
 use Rattle.program_image.specs.Handlers.{code_of}
 use Rattle.machine_state.specs.State.{State, owner_at, waiters_of}
-use Rattle.machine_state.specs.Requests.{Request, Fault, Exit, Wait, Begin, InitDone, InitFail, Finish, key_of, cell}
-use Rattle.machine_state.specs.Deeds.{Answer, Gives, Raises, Slept, Deed, quiet}
+use Rattle.machine_state.specs.declared.request.Request.{Request}
+use Rattle.machine_state.specs.declared.request.Request.TheVariants.{Fault, Exit, Wait, Begin, InitDone, InitFail, Finish}
+use Rattle.machine_state.specs.Requests.{key_of, cell}
+use Rattle.machine_state.specs.declared.request.Answer.{Answer}
+use Rattle.machine_state.specs.declared.request.Answer.TheVariants.{Gives, Raises, Slept}
+use Rattle.machine_state.specs.Deeds.{Deed, quiet}
 use Rattle.machine_state.specs.Next.{Next, Alone, Throws, Calls, Leaves, Drops, Needs, Wants, Stuck, Plan}
 use Rattle.machine_state.specs.Plan.{plan}
 use Rattle.machine_state.specs.Serve.{serve, pick_fits, name_fits}

@@ -16,7 +16,9 @@ use Rattle.hierarchy.specs.Walks.{has}
 use Rattle.jvm_base.specs.Names.{named}
 use Rattle.program_image.specs.Buffers.{is_buffer}
 use Rattle.machine_state.specs.State.{State, Heap, body_at, owner_at, waiters_of}
-use Rattle.machine_state.specs.Requests.{Request, Get, Put, Load, Store, Len, Make, MakeText, Fault, Enter, Exit, Wait, Notify, NotifyAll, Begin, InitDone, InitFail, Start, Join, Finish, Buffer, Print, key_of, cell}
+use Rattle.machine_state.specs.declared.request.Request.{Request}
+use Rattle.machine_state.specs.declared.request.Request.TheVariants.{Get, Put, Load, Store, Len, Make, MakeText, Fault, Enter, Exit, Wait, Notify, NotifyAll, Begin, InitDone, InitFail, Start, Join, Finish, Buffer, Print}
+use Rattle.machine_state.specs.Requests.{key_of, cell}
 use Rattle.machine_state.specs.Changes.{Change, Made, SetsElement, Owned, Freed}
 use Rattle.machine_state.specs.Events.{FieldOf, ElementOf, One}
 use Rattle.machine_state.specs.Deeds.{Deed, faulted, reading, changing}

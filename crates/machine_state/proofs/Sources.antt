@@ -12,7 +12,9 @@ use Rattle.machine_state.specs.declared.state.ClassState.TheVariants as class_st
 use Rattle.program_image.specs.Program.{Program}
 use Rattle.jvm_base.specs.Words.{from}
 use Rattle.machine_state.specs.State.{State, owner_at, waiters_of}
-use Rattle.machine_state.specs.Requests.{Request, Begin, Fault, key_of, cell}
+use Rattle.machine_state.specs.declared.request.Request.{Request}
+use Rattle.machine_state.specs.declared.request.Request.TheVariants.{Begin, Fault}
+use Rattle.machine_state.specs.Requests.{key_of, cell}
 use Rattle.machine_state.specs.Deeds.{Deed, quiet}
 use Rattle.machine_state.specs.Next.{Next, Alone, Throws, Calls, Leaves, Drops, Needs, Wants, Stuck, Plan}
 use Rattle.machine_state.specs.Serve.{serve}

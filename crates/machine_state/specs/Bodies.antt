@@ -12,7 +12,8 @@ use Rattle.program_image.specs.Program.{Program}
 use Rattle.program_image.specs.Subclass.{is_sub_of, part_of}
 use Rattle.machine_state.specs.BootClasses.{array_index, array_store}
 use Rattle.machine_state.specs.Changes.{SetsField, SetsElement, SetsContent}
-use Rattle.machine_state.specs.Deeds.{Deed, Gives, quiet, reading, changing, faulted, making_text}
+use Rattle.machine_state.specs.declared.request.Answer.TheVariants.{Gives}
+use Rattle.machine_state.specs.Deeds.{Deed, quiet, reading, changing, faulted, making_text}
 use Rattle.machine_state.specs.Events.{FieldOf, ElementOf, ContentOf, One, Content}
 use Rattle.machine_state.specs.Intrinsics.{new_buffer, buffer_of, buffer_text, buffer_length}
 

@@ -15,8 +15,10 @@ use Rattle.program_image.specs.Words.{instruction_at}
 use Rattle.frame_ops.specs.Operands.{returned}
 use Rattle.machine_state.specs.declared.state.Mode.{Mode}
 use Rattle.machine_state.specs.declared.state.Mode.TheVariants.{Entry, Running, Raising, Waiting, Ended}
-use Rattle.machine_state.specs.Requests.{Request, Enter, Exit, Wait, Begin, InitDone, InitFail, Finish}
-use Rattle.machine_state.specs.Deeds.{Answer, Gives, Raises, Slept}
+use Rattle.machine_state.specs.declared.request.Request.{Request}
+use Rattle.machine_state.specs.declared.request.Request.TheVariants.{Enter, Exit, Wait, Begin, InitDone, InitFail, Finish}
+use Rattle.machine_state.specs.declared.request.Answer.{Answer}
+use Rattle.machine_state.specs.declared.request.Answer.TheVariants.{Gives, Raises, Slept}
 use Rattle.machine_state.specs.Next.{answered}
 
 -- a thread's mode and levels, the top one first

@@ -8,14 +8,10 @@ use Rattle.jvm_base.specs.declared.value.ObjectBody.TheVariants.{Fields, Text}
 use Rattle.program_image.specs.Program.{Program}
 use Rattle.program_image.specs.Words.{zeros_of}
 use Rattle.machine_state.specs.BootClasses.{string}
+use Rattle.machine_state.specs.declared.request.Answer.{Answer}
+use Rattle.machine_state.specs.declared.request.Answer.TheVariants.{Gives}
 use Rattle.machine_state.specs.Changes.{Change, Made}
 use Rattle.machine_state.specs.Events.{Place, Held, LockEvent, Event, Reads, Locks, writes}
-
--- a value or none; an exception; or that the thread sleeps, with its count
-pub data Answer : Type 0 where
-  Gives : Option Value → Answer
-  Raises : Name → Answer
-  Slept : ℕ → Answer
 
 -- makes are the classes of the made objects, waiters those of whom the choice must pick one;
 -- reads and locks are the events that no change shows

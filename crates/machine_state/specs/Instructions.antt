@@ -29,7 +29,7 @@ use Rattle.machine_state.specs.Calls.{invokes}
 use Rattle.machine_state.specs.Classes.{is_constant, array_class_of, array_class_over, constant_in}
 use Rattle.machine_state.specs.Next.{Next, Alone, Throws, Leaves, Needs, Stuck, Plan, Who, plain, asking, fault}
 use Rattle.machine_state.specs.PreMade.{holder}
-use Rattle.machine_state.specs.Requests.{Get, Put, Load, Store, Len, Make, Enter, Exit}
+use Rattle.machine_state.specs.declared.request.Request.TheVariants.{Get, Put, Load, Store, Len, Make, Enter, Exit}
 
 -- ---- values as they are stored
 

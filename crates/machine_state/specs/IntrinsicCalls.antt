@@ -12,7 +12,7 @@ use Rattle.frame_ops.specs.Narrowing.{as_unit}
 use Rattle.machine_state.specs.BootClasses.{string, null_pointer, string_index}
 use Rattle.machine_state.specs.Bodies.{count_value}
 use Rattle.machine_state.specs.Intrinsics.{Intrinsic, Shown, Letter, Truth, intrinsic_of, WaitOn, NotifyOne, NotifyAllOf, TextLength, CharAt, SameText, Concat, ValueOf, NewBuffer, BufferOf, Append, BufferText, BufferLength, Prints, PrintsLine, PrintsEnd, StartThread, JoinThread, CurrentThread, Sleep, Yield}
-use Rattle.machine_state.specs.Requests.{MakeText, Wait, Notify, NotifyAll, Start, Join, Buffer, Print}
+use Rattle.machine_state.specs.declared.request.Request.TheVariants.{MakeText, Wait, Notify, NotifyAll, Start, Join, Buffer, Print}
 use Rattle.machine_state.specs.Next.{Next, Needs, Stuck, Who, fault, with_text, answers}
 
 -- ---- arguments as texts

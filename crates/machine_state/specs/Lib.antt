@@ -11,6 +11,7 @@ pub mod Intrinsics
 pub mod Bodies
 pub mod Locks
 pub mod Serve
+pub mod Serving
 pub mod Next
 pub mod IntrinsicCalls
 pub mod Calls

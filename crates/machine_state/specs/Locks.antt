@@ -4,7 +4,8 @@ use Rattle.jvm_base.specs.declared.name.Name.{Name}
 use Rattle.hierarchy.specs.Walks.{has}
 use Rattle.machine_state.specs.declared.state.MonitorState.{MonitorState}
 use Rattle.machine_state.specs.Changes.{Change, Owned, Freed, Sleeps, Moved, MovedAll}
-use Rattle.machine_state.specs.Deeds.{Deed, Slept, locking}
+use Rattle.machine_state.specs.declared.request.Answer.TheVariants.{Slept}
+use Rattle.machine_state.specs.Deeds.{Deed, locking}
 use Rattle.machine_state.specs.Events.{Enters, Leaves, Waits, Notifies, NotifiesAll, Retakes}
 
 -- a thread owns a lock so many times

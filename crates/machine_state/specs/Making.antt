@@ -15,7 +15,8 @@ use Rattle.program_image.specs.Words.{zeros_of}
 use Rattle.machine_state.specs.BootClasses.{string}
 use Rattle.machine_state.specs.Changes.{Made}
 use Rattle.machine_state.specs.Classes.{element_zero}
-use Rattle.machine_state.specs.Deeds.{Deed, Gives}
+use Rattle.machine_state.specs.declared.request.Answer.TheVariants.{Gives}
+use Rattle.machine_state.specs.Deeds.{Deed}
 
 -- references to so many objects of a class, the first of which has this index
 abbrev pub references : ℕ → ℕ → ℕ → ℕ → List Value

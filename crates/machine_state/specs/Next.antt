@@ -7,7 +7,8 @@ use Rattle.jvm_base.specs.declared.frame.Frame.{Frame}
 use Rattle.program_image.specs.Program.{Program}
 use Rattle.program_image.specs.Words.{instruction_at}
 use Rattle.frame_ops.specs.Stepping.{placed_answered}
-use Rattle.machine_state.specs.Requests.{Request, Fault}
+use Rattle.machine_state.specs.declared.request.Request.{Request}
+use Rattle.machine_state.specs.declared.request.Request.TheVariants.{Fault}
 
 -- The top frame goes on, throws, calls, leaves with a value or is dropped by an exception; or
 -- something is asked of a part that threads share. Wants is the want of a text that isn't known

@@ -25,7 +25,7 @@ use Rattle.machine_state.specs.Classes.{clinit_of, thread_run}
 use Rattle.machine_state.specs.Instructions.{instruction_plan}
 use Rattle.machine_state.specs.Next.{Next, Alone, Leaves, Drops, Needs, Stuck, Plan, Who, plain, asking, fault}
 use Rattle.machine_state.specs.PreMade.{arguments}
-use Rattle.machine_state.specs.Requests.{Enter, Exit, InitDone, InitFail, Finish}
+use Rattle.machine_state.specs.declared.request.Request.TheVariants.{Enter, Exit, InitDone, InitFail, Finish}
 
 -- ---- a thread that runs
 

@@ -1,41 +1,14 @@
--- What a step asks of a part of the state that threads share, and the part that it addresses.
+-- The part of the state that a request addresses.
 use Rattle.std.specs.Prelude.{ℕ, ℤ, Bool, List, map, Option, slice_get}
 use Rattle.jvm_base.specs.declared.name.Name.{Name}
 use Rattle.jvm_base.specs.declared.value.Value.{Value}
 use Rattle.jvm_base.specs.declared.value.ObjectBody.{ObjectBody}
 use Rattle.jvm_base.specs.declared.value.Uncaught.{Uncaught}
+use Rattle.machine_state.specs.declared.request.Request.{Request}
+use Rattle.machine_state.specs.declared.request.Request.TheVariants.{Get, Put, Load, Store, Len, Make, MakeText, Fault, Enter, Exit, Wait, Notify, NotifyAll, Begin, InitDone, InitFail, Start, Join, Finish, Buffer, Print}
 use Rattle.machine_state.specs.declared.state.MonitorState.{MonitorState}
 use Rattle.machine_state.specs.declared.state.ClassState.{ClassState}
 use Rattle.machine_state.specs.State.{State, body_at, owner_at, waiters_of, is_ended}
-
--- A field is read or written, or an element; an array's length; an object of a class, or an array
--- of these sizes, a String or an exception is made; a lock is entered, left (raising: by an
--- exception that passes), waited on, or its waiters are woken; a class's initialisation begins, is
--- done or has failed (with an exception that isn't an Error: another one takes its place); a thread
--- is started, waited for, or ends with what it raised; a method of a StringBuffer is called; a text
--- is printed.
-pub data Request : Type 0 where
-  Get : Name → ℕ → Request
-  Put : Name → ℕ → Value → Request
-  Load : Name → ℤ → Request
-  Store : Name → ℤ → Value → Request
-  Len : Name → Request
-  Make : ℕ → List ℕ → Request
-  MakeText : List ℕ → Request
-  Fault : ℕ → Request
-  Enter : Name → Request
-  Exit : Name → Bool → Request
-  Wait : Name → Request
-  Notify : Name → Request
-  NotifyAll : Name → Request
-  Begin : ℕ → Request
-  InitDone : ℕ → Request
-  InitFail : ℕ → Bool → Request
-  Start : Name → Request
-  Join : Name → Request
-  Finish : Option Name → Request
-  Buffer : Name → ℕ → List ℕ → Request
-  Print : List ℕ → Request
 
 -- where the addressed part lies
 pub data Key : Type 0 where

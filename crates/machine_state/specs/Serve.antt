@@ -12,7 +12,9 @@ use Rattle.machine_state.specs.declared.state.ClassState.TheVariants as class_st
 use Rattle.machine_state.specs.BootClasses.{monitor_state, thread_state, initializer_error}
 use Rattle.machine_state.specs.PreMade.{no_node}
 use Rattle.machine_state.specs.State.{Heap, body_at}
-use Rattle.machine_state.specs.Requests.{Request, Get, Put, Load, Store, Len, Make, MakeText, Fault, Enter, Exit, Wait, Notify, NotifyAll, Begin, InitDone, InitFail, Start, Join, Finish, Buffer, Print, Cell, NoCell, Body, Lock, Class, Threads, Console}
+use Rattle.machine_state.specs.declared.request.Request.{Request}
+use Rattle.machine_state.specs.declared.request.Request.TheVariants.{Get, Put, Load, Store, Len, Make, MakeText, Fault, Enter, Exit, Wait, Notify, NotifyAll, Begin, InitDone, InitFail, Start, Join, Finish, Buffer, Print}
+use Rattle.machine_state.specs.Requests.{Cell, NoCell, Body, Lock, Class, Threads, Console}
 use Rattle.machine_state.specs.Changes.{Becomes, Started, Lost, Printed}
 use Rattle.machine_state.specs.Deeds.{Deed, quiet, changing, faulted, making_text}
 use Rattle.machine_state.specs.Making.{made_objects, making}

@@ -15,7 +15,9 @@ use Rattle.machine_state.specs.declared.state.Mode.{Mode}
 use Rattle.machine_state.specs.declared.state.Mode.TheVariants.{Running, Raising, Waiting, Ended}
 use Rattle.machine_state.specs.BootClasses.{no_class_found}
 use Rattle.machine_state.specs.State.{State, Heap, body_at, owner_at, waiters_of}
-use Rattle.machine_state.specs.Requests.{Request, Begin, Fault, key_of, cell}
+use Rattle.machine_state.specs.declared.request.Request.{Request}
+use Rattle.machine_state.specs.declared.request.Request.TheVariants.{Begin, Fault}
+use Rattle.machine_state.specs.Requests.{key_of, cell}
 use Rattle.machine_state.specs.Changes.{changed}
 use Rattle.machine_state.specs.Events.{Told, told_by}
 use Rattle.machine_state.specs.Deeds.{Deed, events_of, quiet}

@@ -4,8 +4,12 @@
 
 mod laws;
 mod order;
+mod request;
+mod served;
 mod state;
 
 pub use laws::{keeps_bodies, last_write, legal_locks, one_home, one_next, other_threads};
 pub use order::Order;
+pub use request::{Answer, Request};
+pub use served::{Effect, Effects, Served};
 pub use state::{Choice, ClassState, End, Mode, MonitorState, Reason, ThreadState, Waiter};

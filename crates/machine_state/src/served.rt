@@ -1,0 +1,45 @@
+//! What a served request does, as the code hands it on.
+
+use crate::request::Answer;
+use crate::state::{ClassState, MonitorState};
+use jvm_base::{List, Name, ObjectBody, Uncaught, Units, Value};
+
+/// A change to what threads share: an object is made; a field or an element takes a value; units are
+/// put behind the content of a buffer; a lock is owned, or free; a thread falls asleep on a lock; one
+/// that slept there may retake it, or all may; a class is in a state; a thread is started on an
+/// object; an exception isn't caught; bytes are written.
+#[derive(Drop)]
+pub enum Effect {
+    Made(Name, ObjectBody),
+    SetsField(Name, u32, Value),
+    SetsElement(Name, u32, Value),
+    Appends(Name, Units),
+    Owned(Name, MonitorState),
+    Freed(Name),
+    Sleeps(Name, u32),
+    Moved(Name, u32),
+    MovedAll(Name),
+    Becomes(u32, ClassState),
+    Started(Name),
+    Lost(Uncaught),
+    Printed(List<u8>),
+}
+
+/// The changes of one step, in order. Most steps make at most two, which take no list.
+#[derive(Drop)]
+pub enum Effects {
+    Nothing,
+    One(Effect),
+    Two(Effect, Effect),
+    Many(List<Effect>),
+}
+
+/// What a request does, which was served and is still to be done: whether the choice's pick and name
+/// are those that it wants, its changes, and its answer.
+#[derive(Drop)]
+pub struct Served {
+    pub pick_fits: bool,
+    pub name_fits: bool,
+    pub effects: Effects,
+    pub answer: Answer,
+}
