@@ -1,6 +1,6 @@
 -- How the code tells what a served request does.
 use Rattle.std.specs.Prelude.{◌≡◌, ℕ, Bool, List, [], ◌∷◌, ◌++◌, map, Option, Some, None}
-use Rattle.jvm_base.specs.Words.{from}
+use Rattle.jvm_base.specs.Names.{named, no_name}
 use Rattle.jvm_base.specs.declared.name.Name.{Name}
 use Rattle.jvm_base.specs.declared.value.ObjectBody.{ObjectBody}
 use Rattle.jvm_base.specs.declared.value.ObjectBody.TheVariants.{Text}
@@ -10,6 +10,8 @@ use Rattle.machine_state.specs.declared.served.Effect.TheVariants as effect
 use Rattle.machine_state.specs.declared.served.Effects.{Effects}
 use Rattle.machine_state.specs.declared.served.Effects.TheVariants as effects
 use Rattle.machine_state.specs.declared.served.Served.{Served}
+use Rattle.machine_state.specs.declared.served.Wish.{Wish}
+use Rattle.machine_state.specs.declared.served.Wish.TheVariants as wish
 use Rattle.machine_state.specs.declared.state.Choice.{Choice}
 use Rattle.machine_state.specs.Changes.{Change, Made, SetsField, SetsElement, SetsContent, Owned, Freed, Sleeps, Moved, MovedAll, Becomes, Started, Lost, Printed}
 use Rattle.machine_state.specs.Deeds.{Deed}
@@ -48,15 +50,38 @@ change_of heap (effect.Printed bytes) = Printed bytes
 abbrev pub changes_of : Heap → Effects → List Change
 changes_of heap es = map (change_of heap) (effect_list es)
 
+-- the choice's pick that a run takes: the first waiter, or 0 where nobody is to be picked
+abbrev pub first_pick : List ℕ → ℕ
+first_pick [] = 0
+first_pick (w ∷ ws) = w
+
+-- and its name: that of the first object that is made, of a node and an index
+abbrev pub fresh_name : ℕ → ℕ → List ℕ → Name
+fresh_name node index [] = no_name
+fresh_name node index (c ∷ cs) = named node c index
+
+-- the run's own choice for a deed
+abbrev pub fresh_choice : ℕ → ℕ → ℕ → Deed → Choice
+fresh_choice t node index d = record {
+  thread = t;
+  pick = first_pick d.waiters;
+  name = fresh_name node index d.makes;
+}
+
+-- the choice is the one that is wished for a deed
+abbrev pub Meets : Wish → Deed → Choice → Type 0
+Meets (wish.Exactly wished) d c = c ≡ wished
+Meets (wish.Fresh t node index) d c = c ≡ fresh_choice t node index d
+
 -- what is told of a deed is right: of the choice's pick and name, its changes, its answer
-pub record IsServed (m : State) (c : Choice) (d : Deed) (s : Served) : Type 0 where
-  pub pick : s.pick_fits ≡ pick_fits c.pick d.waiters
-  pub name : s.name_fits ≡ name_fits m.heap c.name d.makes
+pub record IsServed (m : State) (w : Wish) (d : Deed) (s : Served) : Type 0 where
+  pub choice : Meets w d s.choice
+  pub pick : s.pick_fits ≡ pick_fits s.choice.pick d.waiters
+  pub name : s.name_fits ≡ name_fits m.heap s.choice.name d.makes
   pub changes : changes_of m.heap s.effects ≡ d.changes
   pub answer : s.answer ≡ d.answer
 
--- a request is told as served exactly where it is
-abbrev pub IsServing : State → Choice → Option Deed → Option Served → Type 0
-IsServing m c None None = Unit {0}
-IsServing m c (Some d) (Some s) = IsServed m c d s
-IsServing m c _ _ = ⊥
+-- of what is done by choice: nothing is told where nothing can be done, whatever the choice
+abbrev pub IsServing : State → Wish → (Choice → Option Deed) → Option Served → Type 0
+IsServing m w deed None = (c : Choice) → deed c ≡ None
+IsServing m w deed (Some s) = (d : Deed) × (deed s.choice ≡ Some d) × IsServed m w d s

@@ -11,5 +11,5 @@ mod state;
 pub use laws::{keeps_bodies, last_write, legal_locks, one_home, one_next, other_threads};
 pub use order::Order;
 pub use request::{Answer, Request};
-pub use served::{Effect, Effects, Served};
+pub use served::{Effect, Effects, Served, Wish};
 pub use state::{Choice, ClassState, End, Mode, MonitorState, Reason, ThreadState, Waiter};

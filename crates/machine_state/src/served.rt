@@ -1,7 +1,7 @@
 //! What a served request does, as the code hands it on.
 
 use crate::request::Answer;
-use crate::state::{ClassState, MonitorState};
+use crate::state::{Choice, ClassState, MonitorState};
 use jvm_base::{List, Name, ObjectBody, Uncaught, Units, Value};
 
 /// A change to what threads share: an object is made; a field or an element takes a value; units are
@@ -34,10 +34,19 @@ pub enum Effects {
     Many(List<Effect>),
 }
 
-/// What a request does, which was served and is still to be done: whether the choice's pick and name
-/// are those that it wants, its changes, and its answer.
+/// Which choice a step is to follow: a given one; or the run's own, which picks the first waiter, and
+/// names what is made by a node and the indices from one on.
+#[derive(Clone, Copy, Debug, PartialEq, Eq)]
+pub enum Wish {
+    Exactly(Choice),
+    Fresh { thread: u32, node: u8, index: u32 },
+}
+
+/// What a request does, which was served and is still to be done: the choice that it follows, whether
+/// its pick and its name are those that the request wants, its changes, and its answer.
 #[derive(Drop)]
 pub struct Served {
+    pub choice: Choice,
     pub pick_fits: bool,
     pub name_fits: bool,
     pub effects: Effects,
