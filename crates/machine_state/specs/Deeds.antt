@@ -9,7 +9,7 @@ use Rattle.program_image.specs.Program.{Program}
 use Rattle.program_image.specs.Words.{zeros_of}
 use Rattle.machine_state.specs.BootClasses.{string}
 use Rattle.machine_state.specs.declared.request.Answer.{Answer}
-use Rattle.machine_state.specs.declared.request.Answer.TheVariants.{Gives}
+use Rattle.machine_state.specs.declared.request.Answer.TheVariants.{Gives, Raises}
 use Rattle.machine_state.specs.Changes.{Change, Made}
 use Rattle.machine_state.specs.Events.{Place, Held, LockEvent, Event, Reads, Locks, writes}
 
