@@ -10,8 +10,11 @@ mod moved;
 mod numbers;
 mod operands;
 mod rows;
+mod seen;
 mod shuffles;
 mod step;
 
 pub use answer::{Fault, Given, Pure};
+pub use numbers::{as_byte, as_short, as_unit};
+pub use seen::answer_at;
 pub use step::{complete, complete_at, placed_at, pure_step, step_at};

@@ -139,21 +139,21 @@ pub(crate) fn compares(test: u8, a: i32, b: i32) -> bool
 }
 
 /// The low 8 bits, with sign.
-pub(crate) fn as_byte(a: i32) -> i32
+pub fn as_byte(a: i32) -> i32
     ensures { result ≡ low.as_byte a }
 {
     ((a.cast_unsigned() % 256) as u8).cast_signed() as i32
 }
 
 /// The low 16 bits, without sign.
-pub(crate) fn as_unit(a: i32) -> i32
+pub fn as_unit(a: i32) -> i32
     ensures { result ≡ pos (low.as_unit a) }
 {
     (a.cast_unsigned() % 65536) as i32
 }
 
 /// The low 16 bits, with sign.
-pub(crate) fn as_short(a: i32) -> i32
+pub fn as_short(a: i32) -> i32
     ensures { result ≡ low.as_short a }
 {
     ((a.cast_unsigned() % 65536) as u16).cast_signed() as i32

@@ -79,7 +79,7 @@ pub(crate) fn shift(op: u8, stack: &mut Operands) -> Moved
     Moved::Behind
 }
 
-fn is_zero(value: Value) -> bool
+pub(crate) fn is_zero(value: Value) -> bool
     ensures { result ≡ is_zero value }
 {
     match value {

@@ -62,7 +62,7 @@ fn given_constant(given: Given) -> Value
     }
 }
 
-fn given_fit(given: Given) -> bool
+pub(crate) fn given_fit(given: Given) -> bool
     ensures { result ≡ given_fit given }
 {
     match given {
@@ -167,7 +167,7 @@ fn jump(op: &Op, stack: &mut Operands) -> Moved
 }
 
 /// An array is asked for, or something of one.
-fn array(op: &Op, stack: &Operands) -> Moved
+pub(crate) fn array(op: &Op, stack: &Operands) -> Moved
     requires family { family_of op.now ≡ Arrays }
     requires can { IsDefined (move_on op.now stack.now.values) }
     ensures moved { result ≡ moved_of (move_on op.now stack.now.values) }
@@ -187,7 +187,7 @@ fn array(op: &Op, stack: &Operands) -> Moved
 }
 
 /// A field, an object or a lock is asked for.
-fn object(op: &Op, stack: &Operands) -> Moved
+pub(crate) fn object(op: &Op, stack: &Operands) -> Moved
     requires family { family_of op.now ≡ Objects }
     requires can { IsDefined (move_on op.now stack.now.values) }
     ensures moved { result ≡ moved_of (move_on op.now stack.now.values) }
@@ -213,7 +213,7 @@ fn object(op: &Op, stack: &Operands) -> Moved
 }
 
 /// A method is called or left.
-fn way(op: &Op, stack: &Operands) -> Moved
+pub(crate) fn way(op: &Op, stack: &Operands) -> Moved
     requires family { family_of op.now ≡ Ways }
     requires few { HasFewArguments op.now }
     requires can { IsDefined (move_on op.now stack.now.values) }

@@ -62,3 +62,11 @@ abbrev pub IsOnOperands : Family → Type 0
 IsOnOperands Told = ⊥
 IsOnOperands Locals = ⊥
 IsOnOperands _ = Unit {0}
+
+-- nothing comes of an instruction of the family but that the frame goes on
+abbrev pub GoesOn : Family → Type 0
+GoesOn Constants = Unit {0}
+GoesOn Locals = Unit {0}
+GoesOn Shuffles = Unit {0}
+GoesOn Jumps = Unit {0}
+GoesOn _ = ⊥
