@@ -1,0 +1,5 @@
+pub mod HeldLaws
+pub mod RowLaws
+pub mod MoveLaws
+pub mod GrowLaws
+pub mod ConditionLaws

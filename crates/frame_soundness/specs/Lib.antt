@@ -1,0 +1,9 @@
+pub mod Values
+pub mod Meeting
+pub mod Fitting
+pub mod Holding
+pub mod Natives
+pub mod AcceptedProgram
+pub mod Frames
+pub mod Moving
+pub mod Conditions
