@@ -1,0 +1,2 @@
+//! A sound machine: what its objects and threads are, where it begins, and what it must wait for.
+#![tactic(auto)]

@@ -1,0 +1,2 @@
+//! A sound machine of an accepted program stays sound, and none of its threads is stuck.
+#![tactic(auto)]
