@@ -7,4 +7,5 @@ pub mod Classes
 pub mod Descriptors
 pub mod Members
 pub mod Sizes
+pub mod Marks
 pub mod Walks

@@ -4,19 +4,20 @@ ghost use Rattle.std.specs.Prelude.{◌≡◌, false, map, IfOk};
 ghost use Rattle.std.specs.List.{flat_map, list_any};
 ghost use Rattle.jvm_base.specs.Descriptors.{desc_of, method_of};
 ghost use Rattle.jvm_base.specs.Words.{from};
-ghost use Rattle.class_names.specs.Texts.{text_in};
+ghost use Rattle.class_names.specs.Texts.{text_in, member_in};
 ghost use Rattle.class_names.specs.Classes.{code_of, codes_of};
-ghost use Rattle.class_names.specs.Seen.{seen_member};
 ghost use Rattle.link_rules.specs.Answers.{IsAnswer};
+ghost use Rattle.link_rules.specs.Marks.{AreTested};
 ghost use Rattle.link_rules.specs.Descriptors.{is_left_out, leaves_out, is_left_out_class, left_out_class, left_out_item, left_out_member, left_out_op, left_out_placed, left_out_entry, left_out_field, left_out_declared, left_out_body, left_out_method, left_out_desc};
 
 use crate::body::{ops, table};
 use crate::error::{LinkErr, LinkWhy};
+use crate::marks::{told_class, told_owner};
 use crate::refuse::{refuse_class_if, refuse_member_if};
 use class_format::{ClassFile, FieldItem, MethodItem};
-use class_names::{Called, class_text, desc, is_array, member, method_desc, text};
+use class_names::{class_text, desc, is_array, member, method_desc, text};
 use code_table::{Code, Op, Placed};
-use jvm_base::{Desc, Elem, List, MethodDesc, NoMemory, TableItem};
+use jvm_base::{Desc, Elem, List, MethodDesc, NoMemory, PoolItem, TableItem};
 use std::alloc::Global;
 
 fn is_left_out(desc: &Desc) -> bool
@@ -73,10 +74,43 @@ fn check_class(alloc: Global, file: &ClassFile, text: &[u16]) -> Result<(), Link
     refuse_class_if(alloc, is_left_out, LinkWhy::LeftOutDesc, file, text)
 }
 
-fn check_item(alloc: Global, file: &ClassFile, item: u16) -> Result<(), LinkErr>
+/// Which texts of a pool are those of array classes of floats or doubles.
+fn left_out_classes(alloc: Global, pool: &[PoolItem]) -> Result<List<bool>, NoMemory>
+    ensures { IfOk result (λ told. AreTested is_left_out_class pool.now told) }
+{
+    let mut told = List::new(alloc);
+    let count = pool.len().min(u16::MAX as usize) as u16;
+    for index in 0..count {
+        told.push(is_left_out_class(alloc, text(pool, index))?)?;
+    }
+    Ok(told)
+}
+
+/// The class of the class item at an index, which is read only where the table tells nothing of it
+/// or that it is left out.
+#[tactic(auto, using(crate::proofs::KnownLaws::class_let_in))]
+fn check_item(alloc: Global, file: &ClassFile, told: &[bool], item: u16) -> Result<(), LinkErr>
+    requires { AreTested is_left_out_class file.now.pool told.now }
     ensures { IsAnswer (left_out_item file.now item) result }
 {
-    check_class(alloc, file, class_text(file.pool.as_slice(), item))
+    let pool = file.pool.as_slice();
+    match told_class(told, pool, item) {
+        Some(false) => Ok(()),
+        _ => check_class(alloc, file, class_text(pool, item)),
+    }
+}
+
+/// The class of a member item, likewise.
+#[tactic(auto, using(crate::proofs::KnownLaws::class_let_in))]
+fn check_owner(alloc: Global, file: &ClassFile, told: &[bool], item: u16) -> Result<(), LinkErr>
+    requires { AreTested is_left_out_class file.now.pool told.now }
+    ensures { IsAnswer (left_out_class file.now (member_in file.now.pool item).class) result }
+{
+    let pool = file.pool.as_slice();
+    match told_owner(told, pool, item) {
+        Some(false) => Ok(()),
+        _ => check_class(alloc, file, member(pool, item).class),
+    }
 }
 
 /// A member that code uses: its class, then its own descriptor.
@@ -84,62 +118,78 @@ fn check_item(alloc: Global, file: &ClassFile, item: u16) -> Result<(), LinkErr>
 fn check_member(
     alloc: Global,
     file: &ClassFile,
-    member: &Called,
+    told: &[bool],
+    item: u16,
     left_out: bool,
 ) -> Result<(), LinkErr>
-    ensures { IsAnswer (left_out_member file.now (seen_member member.now) left_out) result }
+    requires { AreTested is_left_out_class file.now.pool told.now }
+    ensures { IsAnswer (left_out_member file.now (member_in file.now.pool item) left_out) result }
 {
-    check_class(alloc, file, member.class)?;
+    check_owner(alloc, file, told, item)?;
+    let member = member(file.pool.as_slice(), item);
     let why = LinkWhy::LeftOutDesc;
     refuse_member_if(alloc, left_out, why, file, member.name, member.desc)
 }
 
-fn check_op(alloc: Global, file: &ClassFile, op: &Op) -> Result<(), LinkErr>
+fn check_op(alloc: Global, file: &ClassFile, told: &[bool], op: &Op) -> Result<(), LinkErr>
+    requires { AreTested is_left_out_class file.now.pool told.now }
     ensures { IsAnswer (left_out_op file.now op.now) result }
 {
-    let pool = file.pool.as_slice();
     match op {
         Op::Static { item, desc, .. } | Op::Field { item, desc, .. } => {
-            check_member(alloc, file, &member(pool, *item), is_left_out(desc.get()))
+            check_member(alloc, file, told, *item, is_left_out(desc.get()))
         }
         Op::Invoke { item, desc, .. } => {
-            check_member(alloc, file, &member(pool, *item), leaves_out(desc.get()))
+            check_member(alloc, file, told, *item, leaves_out(desc.get()))
         }
         Op::New(item)
         | Op::AnewArray(item)
         | Op::Cast { item, .. }
-        | Op::MultiNewArray { item, .. } => check_item(alloc, file, *item),
+        | Op::MultiNewArray { item, .. } => check_item(alloc, file, told, *item),
         _ => Ok(()),
     }
 }
 
 #[tactic(auto, using(crate::proofs::Firsts::places_break))]
-fn check_ops(alloc: Global, file: &ClassFile, ops: &[Placed]) -> Result<(), LinkErr>
+fn check_ops(alloc: Global, file: &ClassFile, told: &[bool], ops: &[Placed]) -> Result<(), LinkErr>
+    requires { AreTested is_left_out_class file.now.pool told.now }
     ensures { IsAnswer (flat_map (left_out_placed file.now) ops.now) result }
 {
     for placed in ops {
-        check_op(alloc, file, &placed.op)?;
+        check_op(alloc, file, told, &placed.op)?;
     }
     Ok(())
 }
 
 #[tactic(auto, unfolding(crate::specs::Descriptors::left_out_entry))]
-fn check_entry(alloc: Global, file: &ClassFile, entry: &TableItem) -> Result<(), LinkErr>
+fn check_entry(
+    alloc: Global,
+    file: &ClassFile,
+    told: &[bool],
+    entry: &TableItem,
+) -> Result<(), LinkErr>
+    requires { AreTested is_left_out_class file.now.pool told.now }
     ensures { IsAnswer (left_out_entry file.now entry.now) result }
 {
     if entry.class == 0 {
         Ok(())
     } else {
-        check_item(alloc, file, entry.class)
+        check_item(alloc, file, told, entry.class)
     }
 }
 
 #[tactic(auto, using(crate::proofs::Firsts::items_break))]
-fn check_table(alloc: Global, file: &ClassFile, table: &[TableItem]) -> Result<(), LinkErr>
+fn check_table(
+    alloc: Global,
+    file: &ClassFile,
+    told: &[bool],
+    table: &[TableItem],
+) -> Result<(), LinkErr>
+    requires { AreTested is_left_out_class file.now.pool told.now }
     ensures { IsAnswer (flat_map (left_out_entry file.now) table.now) result }
 {
     for entry in table {
-        check_entry(alloc, file, entry)?;
+        check_entry(alloc, file, told, entry)?;
     }
     Ok(())
 }
@@ -193,28 +243,32 @@ fn check_declared(alloc: Global, file: &ClassFile, method: &MethodItem) -> Resul
 fn check_body(
     alloc: Global,
     file: &ClassFile,
+    told: &[bool],
     method: &MethodItem,
     code: &Option<Code>,
 ) -> Result<(), LinkErr>
-    requires { code.now ≡ code_of file.now.pool method.now }
+    requires told { AreTested is_left_out_class file.now.pool told.now }
+    requires code { code.now ≡ code_of file.now.pool method.now }
     ensures { IsAnswer (left_out_body file.now method.now) result }
 {
-    check_ops(alloc, file, ops(code))?;
-    check_table(alloc, file, table(method))
+    check_ops(alloc, file, told, ops(code))?;
+    check_table(alloc, file, told, table(method))
 }
 
 #[tactic(auto, using(crate::proofs::Firsts::answer_back), unfolding(crate::specs::Descriptors::left_out_method))]
 fn check_method(
     alloc: Global,
     file: &ClassFile,
+    told: &[bool],
     method: &MethodItem,
     code: &Option<Code>,
 ) -> Result<(), LinkErr>
-    requires { code.now ≡ code_of file.now.pool method.now }
+    requires told { AreTested is_left_out_class file.now.pool told.now }
+    requires code { code.now ≡ code_of file.now.pool method.now }
     ensures { IsAnswer (left_out_method file.now method.now) result }
 {
     check_declared(alloc, file, method)?;
-    check_body(alloc, file, method, code)
+    check_body(alloc, file, told, method, code)
 }
 
 #[tactic(auto, using(crate::proofs::Firsts::places_break))]
@@ -222,9 +276,10 @@ fn check_methods(alloc: Global, file: &ClassFile, codes: &[Option<Code>]) -> Res
     requires { codes.now ≡ codes_of file.now }
     ensures { IsAnswer (flat_map (left_out_method file.now) file.now.methods) result }
 {
+    let told = left_out_classes(alloc, file.pool.as_slice())?;
     let methods = file.methods.as_slice();
     for i in 0..methods.len() {
-        check_method(alloc, file, &methods[i], &codes[i])?;
+        check_method(alloc, file, told.as_slice(), &methods[i], &codes[i])?;
     }
     Ok(())
 }

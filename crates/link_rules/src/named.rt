@@ -1,19 +1,22 @@
 //! Each class that a file names is there.
 
 ghost use Rattle.std.specs.Prelude.{◌≡◌, ◌++◌, ◌<◌, [], map, length};
-ghost use Rattle.std.specs.List.{flat_map};
+ghost use Rattle.std.specs.List.{All, flat_map};
 ghost use Rattle.std.specs.Option.{option_to_list};
 ghost use Rattle.jvm_base.specs.Descriptors.{desc_of, method_of};
 ghost use Rattle.jvm_base.specs.Words.{from};
 ghost use Rattle.class_names.specs.Classes.{this_name, super_text, interface_texts, code_of, codes_of, ops_of, table_of};
-ghost use Rattle.class_names.specs.Texts.{text_in};
+ghost use Rattle.class_names.specs.Texts.{text_in, member_in};
 ghost use Rattle.class_names.specs.Named.{named_by, item_names, desc_names, op_names, entry_names, field_names, method_names, method_desc_names};
 ghost use Rattle.link_rules.specs.Answers.{IsAnswer};
 ghost use Rattle.link_rules.specs.Classes.{missing, no_class};
-ghost use Rattle.link_rules.specs.Walks.Missing.{missing_text, missing_item, missing_desc, missing_method_desc, missing_op, missing_placed, missing_entry, missing_field, missing_method, missing_interface, missing_above, missing_members, missing_file};
+ghost use Rattle.link_rules.specs.Walks.Missing.{missing_text, missing_item, missing_desc, missing_method_desc, missing_op, missing_placed, missing_entry, missing_field, missing_method, missing_interface, missing_above, missing_members, missing_file, AreKnown};
+ghost use Rattle.link_rules.specs.Walks.Spelled.{IsField, IsMethod, IsSpelled, IsSpelledPlaced};
 
 use crate::body::{ops, table};
 use crate::error::{LinkErr, LinkWhy};
+use crate::known::{Known, known_texts};
+use crate::marks::{told_class, told_desc, told_owner};
 use crate::refuse::refuse_class_if;
 use class_format::{ClassFile, FieldItem, MethodItem};
 use class_names::{Names, class_text, desc, is_array, member, method_desc, super_text, text};
@@ -53,10 +56,41 @@ fn check_text(alloc: Global, names: &Names, file: &ClassFile, text: &[u16]) -> R
     }
 }
 
-fn check_item(alloc: Global, names: &Names, file: &ClassFile, item: u16) -> Result<(), LinkErr>
+/// The class of the class item at an index, which is looked up only where the table doesn't tell
+/// that it is there.
+fn check_item(
+    alloc: Global,
+    names: &Names,
+    file: &ClassFile,
+    known: &Known,
+    item: u16,
+) -> Result<(), LinkErr>
+    requires { AreKnown names.now file.now.pool known.now }
     ensures { IsAnswer (missing_item names.now file.now item) result }
 {
-    check_text(alloc, names, file, class_text(file.pool.as_slice(), item))
+    let pool = file.pool.as_slice();
+    match told_class(known.classes.as_slice(), pool, item) {
+        Some(true) => Ok(()),
+        _ => check_text(alloc, names, file, class_text(pool, item)),
+    }
+}
+
+/// The class of a member item, likewise.
+fn check_owner(
+    alloc: Global,
+    names: &Names,
+    file: &ClassFile,
+    known: &Known,
+    item: u16,
+) -> Result<(), LinkErr>
+    requires { AreKnown names.now file.now.pool known.now }
+    ensures { IsAnswer (missing_text names.now file.now (member_in file.now.pool item).class) result }
+{
+    let pool = file.pool.as_slice();
+    match told_owner(known.classes.as_slice(), pool, item) {
+        Some(true) => Ok(()),
+        _ => check_text(alloc, names, file, member(pool, item).class),
+    }
 }
 
 fn check_desc(alloc: Global, names: &Names, file: &ClassFile, desc: &Desc) -> Result<(), LinkErr>
@@ -99,35 +133,90 @@ fn check_method_desc(
     }
 }
 
-/// The classes that an instruction names: the item's, then those in its descriptor.
-#[tactic(auto, using(crate::proofs::Firsts::answer_back))]
-fn check_op(alloc: Global, names: &Names, file: &ClassFile, op: &Op) -> Result<(), LinkErr>
-    ensures { IsAnswer (missing_op names.now file.now op.now) result }
+/// The descriptor of a field that an item names, likewise.
+fn check_field_desc(
+    alloc: Global,
+    names: &Names,
+    file: &ClassFile,
+    known: &Known,
+    item: u16,
+    desc: &Desc,
+) -> Result<(), LinkErr>
+    requires known { AreKnown names.now file.now.pool known.now }
+    requires spelled { IsField file.now.pool item desc.now }
+    ensures { IsAnswer (missing_desc names.now file.now desc.now) result }
 {
     let pool = file.pool.as_slice();
+    match told_desc(known.fields.as_slice(), pool, item) {
+        Some(true) => Ok(()),
+        _ => check_desc(alloc, names, file, desc),
+    }
+}
+
+/// The descriptor of a method that an item names, likewise.
+fn check_call_desc(
+    alloc: Global,
+    names: &Names,
+    file: &ClassFile,
+    known: &Known,
+    item: u16,
+    desc: &MethodDesc,
+) -> Result<(), LinkErr>
+    requires known { AreKnown names.now file.now.pool known.now }
+    requires spelled { IsMethod file.now.pool item desc.now }
+    ensures { IsAnswer (missing_method_desc names.now file.now desc.now) result }
+{
+    let pool = file.pool.as_slice();
+    match told_desc(known.methods.as_slice(), pool, item) {
+        Some(true) => Ok(()),
+        _ => check_method_desc(alloc, names, file, desc),
+    }
+}
+
+/// The classes that an instruction names: the item's, then those in its descriptor.
+#[tactic(auto, using(crate::proofs::Firsts::answer_back, crate::proofs::Firsts::first_front))]
+fn check_op(
+    alloc: Global,
+    names: &Names,
+    file: &ClassFile,
+    known: &Known,
+    op: &Op,
+) -> Result<(), LinkErr>
+    requires known { AreKnown names.now file.now.pool known.now }
+    requires spelled { IsSpelled file.now.pool op.now }
+    ensures { IsAnswer (missing_op names.now file.now op.now) result }
+{
     match op {
         Op::Static { item, desc, .. } | Op::Field { item, desc, .. } => {
-            check_text(alloc, names, file, member(pool, *item).class)?;
-            check_desc(alloc, names, file, desc.get())
+            check_owner(alloc, names, file, known, *item)?;
+            check_field_desc(alloc, names, file, known, *item, desc.get())
         }
         Op::Invoke { item, desc, .. } => {
-            check_text(alloc, names, file, member(pool, *item).class)?;
-            check_method_desc(alloc, names, file, desc.get())
+            check_owner(alloc, names, file, known, *item)?;
+            check_call_desc(alloc, names, file, known, *item, desc.get())
         }
         Op::New(item)
         | Op::AnewArray(item)
         | Op::Cast { item, .. }
-        | Op::MultiNewArray { item, .. } => check_item(alloc, names, file, *item),
+        | Op::MultiNewArray { item, .. } => check_item(alloc, names, file, known, *item),
         _ => Ok(()),
     }
 }
 
 #[tactic(auto, using(crate::proofs::Firsts::places_break))]
-fn check_ops(alloc: Global, names: &Names, file: &ClassFile, ops: &[Placed]) -> Result<(), LinkErr>
+fn check_ops(
+    alloc: Global,
+    names: &Names,
+    file: &ClassFile,
+    known: &Known,
+    ops: &[Placed],
+) -> Result<(), LinkErr>
+    requires known { AreKnown names.now file.now.pool known.now }
+    requires spelled { All (IsSpelledPlaced file.now.pool) ops.now }
     ensures { IsAnswer (flat_map (missing_placed names.now file.now) ops.now) result }
 {
     for placed in ops {
-        check_op(alloc, names, file, &placed.op)?;
+        check_op(alloc, names, file, known, &placed.op)?;
     }
     Ok(())
 }
@@ -137,14 +226,16 @@ fn check_entry(
     alloc: Global,
     names: &Names,
     file: &ClassFile,
+    known: &Known,
     entry: &TableItem,
 ) -> Result<(), LinkErr>
+    requires { AreKnown names.now file.now.pool known.now }
     ensures { IsAnswer (missing_entry names.now file.now entry.now) result }
 {
     if entry.class == 0 {
         Ok(())
     } else {
-        check_item(alloc, names, file, entry.class)
+        check_item(alloc, names, file, known, entry.class)
     }
 }
 
@@ -153,12 +244,14 @@ fn check_table(
     alloc: Global,
     names: &Names,
     file: &ClassFile,
+    known: &Known,
     table: &[TableItem],
 ) -> Result<(), LinkErr>
+    requires { AreKnown names.now file.now.pool known.now }
     ensures { IsAnswer (flat_map (missing_entry names.now file.now) table.now) result }
 {
     for entry in table {
-        check_entry(alloc, names, file, entry)?;
+        check_entry(alloc, names, file, known, entry)?;
     }
     Ok(())
 }
@@ -191,19 +284,21 @@ fn check_fields(
 }
 
 /// The classes that a method names: in its descriptor, its instructions and its exception table.
-#[tactic(auto, using(crate::proofs::Firsts::answer_back))]
+#[tactic(auto, using(crate::proofs::Firsts::answer_back, crate::proofs::SpelledOps::code_spelled))]
 fn check_body(
     alloc: Global,
     names: &Names,
     file: &ClassFile,
+    known: &Known,
     method: &MethodItem,
     code: &Option<Code>,
 ) -> Result<(), LinkErr>
-    requires { code.now ≡ code_of file.now.pool method.now }
+    requires known { AreKnown names.now file.now.pool known.now }
+    requires code { code.now ≡ code_of file.now.pool method.now }
     ensures { IsAnswer (flat_map (missing_placed names.now file.now) (ops_of file.now.pool method.now) ++ flat_map (missing_entry names.now file.now) (table_of method.now)) result }
 {
-    check_ops(alloc, names, file, ops(code))?;
-    check_table(alloc, names, file, table(method))
+    check_ops(alloc, names, file, known, ops(code))?;
+    check_table(alloc, names, file, known, table(method))
 }
 
 #[tactic(auto, using(crate::proofs::Firsts::answer_back))]
@@ -226,14 +321,16 @@ fn check_method(
     alloc: Global,
     names: &Names,
     file: &ClassFile,
+    known: &Known,
     method: &MethodItem,
     code: &Option<Code>,
 ) -> Result<(), LinkErr>
-    requires { code.now ≡ code_of file.now.pool method.now }
+    requires known { AreKnown names.now file.now.pool known.now }
+    requires code { code.now ≡ code_of file.now.pool method.now }
     ensures { IsAnswer (missing_method names.now file.now method.now) result }
 {
     check_declared_desc(alloc, names, file, method)?;
-    check_body(alloc, names, file, method, code)
+    check_body(alloc, names, file, known, method, code)
 }
 
 #[tactic(auto, using(crate::proofs::Firsts::places_break))]
@@ -246,9 +343,10 @@ fn check_methods(
     requires { codes.now ≡ codes_of file.now }
     ensures { IsAnswer (flat_map (missing_method names.now file.now) file.now.methods) result }
 {
+    let known = known_texts(alloc, names, file.pool.as_slice())?;
     let methods = file.methods.as_slice();
     for i in 0..methods.len() {
-        check_method(alloc, names, file, &methods[i], &codes[i])?;
+        check_method(alloc, names, file, &known, &methods[i], &codes[i])?;
     }
     Ok(())
 }
@@ -271,7 +369,12 @@ fn check_interface(
 ) -> Result<(), LinkErr>
     ensures { IsAnswer (missing_interface names.now file.now interface) result }
 {
-    check_item(alloc, names, file, interface)
+    check_text(
+        alloc,
+        names,
+        file,
+        class_text(file.pool.as_slice(), interface),
+    )
 }
 
 #[tactic(auto, using(crate::proofs::Firsts::items_break))]

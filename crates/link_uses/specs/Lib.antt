@@ -4,4 +4,3 @@ pub mod Uses
 pub mod Owned
 pub mod Walk
 pub mod Items
-pub mod Marks

@@ -13,21 +13,22 @@ ghost use Rattle.link_rules.specs.Answers.{IsAnswer};
 ghost use Rattle.link_rules.specs.Numbers.{numbered, flags_of};
 ghost use Rattle.link_rules.specs.Packages.{is_one_package};
 ghost use Rattle.link_uses.specs.Items.{AreItems};
-ghost use Rattle.link_uses.specs.Marks.{AreRight};
+ghost use Rattle.link_rules.specs.Marks.{AreRight};
 ghost use Rattle.link_uses.specs.Lookups.{found_field, found_method};
 ghost use Rattle.link_uses.specs.Uses.{name_at, no_access_class, no_access_item, is_hidden, is_foreign_write, is_hidden_field, no_access_field, is_hidden_method, no_access_method, no_access_op, no_access_placed, no_access_entry, no_access_in, no_access};
 
 use crate::flags::{field_flags, method_flags};
 use crate::items::{field_at, file_items, method_at};
 use crate::lookup::{Found, Resolver};
-use crate::marks::{told_class, told_owner};
 use class_format::{ClassFile, FINAL, MethodItem, PRIVATE, PROTECTED, PUBLIC, has_flag};
 use class_names::{Called, class_text, desc, is_array, member, text, this_name};
 use code_table::opcode::{PUTFIELD, PUTSTATIC};
 use code_table::{Code, Op, Placed};
 use jvm_base::{Desc, Elem, List, NoMemory, TableItem};
 use link_members::is_one_package;
-use link_rules::{LinkErr, LinkWhy, Program, ops, refuse_class_if, refuse_member_if, table};
+use link_rules::{
+    LinkErr, LinkWhy, Program, ops, refuse_class_if, refuse_member_if, table, told_class, told_owner,
+};
 use std::alloc::Global;
 
 /// Whether a class is neither public nor of the same package.

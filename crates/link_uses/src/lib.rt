@@ -6,7 +6,6 @@ mod flags;
 mod items;
 mod kinds;
 mod lookup;
-mod marks;
 mod missing;
 mod owned;
 mod walk;

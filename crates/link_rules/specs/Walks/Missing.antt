@@ -1,10 +1,11 @@
 -- no-class, place by place as the check goes; the rule itself is in Classes.
-use Rattle.std.specs.Prelude.{ℕ, List, [], ◌++◌, ◌==◌, if◌then◌else◌}
-use Rattle.std.specs.List.{flat_map}
+use Rattle.std.specs.Prelude.{ℕ, Bool, true, ◌&&◌, List, [], ◌++◌, ◌==◌, if◌then◌else◌}
+use Rattle.std.specs.List.{flat_map, list_all}
 use Rattle.std.specs.Option.{option_to_list}
 use Rattle.jvm_base.specs.declared.code_item.TableItem.{TableItem}
 use Rattle.jvm_base.specs.declared.desc.Desc.{Desc}
 use Rattle.jvm_base.specs.declared.desc.MethodDesc.{MethodDesc}
+use Rattle.jvm_base.specs.declared.pool.PoolItem.{PoolItem}
 use Rattle.jvm_base.specs.Descriptors.{desc_of, method_of}
 use Rattle.jvm_base.specs.Words.{from}
 use Rattle.class_format.specs.declared.class.ClassFile.{ClassFile}
@@ -13,10 +14,13 @@ use Rattle.class_format.specs.declared.class.MethodItem.{MethodItem}
 use Rattle.code_table.specs.declared.code.Placed.{Placed}
 use Rattle.code_table.specs.declared.op.Op.{Op}
 use Rattle.code_table.specs.declared.op.Op.TheVariants.{Static, Field, Invoke, New, AnewArray, Cast, MultiNewArray}
-use Rattle.class_names.specs.Texts.{text_in, class_text, member_in}
+use Rattle.class_names.specs.Known.{is_known}
+use Rattle.class_names.specs.Texts.{is_array, text_in, class_text, member_in}
 use Rattle.class_names.specs.Classes.{ops_of, table_of, super_text}
 use Rattle.class_names.specs.Named.{named_by, desc_names}
 use Rattle.link_rules.specs.declared.error.LinkErr.{LinkErr}
+use Rattle.link_rules.specs.declared.known.Known.{Known}
+use Rattle.link_rules.specs.Marks.{AreTested}
 use Rattle.link_rules.specs.Classes.{missing}
 
 abbrev pub missing_text : List (List ℕ) → ClassFile → List ℕ → List LinkErr
@@ -66,3 +70,30 @@ missing_members names f = flat_map (missing_field names f) f.fields ++ flat_map 
 
 unfoldable pub missing_file : List (List ℕ) → ClassFile → List LinkErr
 missing_file names f = missing_above names f ++ missing_members names f
+
+-- ---- what a table tells of each text of a pool: whether no class that it names is missing
+
+-- the class in a field's descriptor is there
+abbrev pub knows_desc : List (List ℕ) → Desc → Bool
+knows_desc names d = list_all (is_known names) (desc_names d)
+
+-- those in a method's
+abbrev pub knows_method : List (List ℕ) → MethodDesc → Bool
+knows_method names m = list_all (knows_desc names) m.args && list_all (knows_desc names) (option_to_list m.ret)
+
+-- in a text that is a field's descriptor, or a method's
+unfoldable pub knows_field_text : List (List ℕ) → List ℕ → Bool
+knows_field_text names text = from true (knows_desc names) (desc_of text)
+
+unfoldable pub knows_method_text : List (List ℕ) → List ℕ → Bool
+knows_method_text names text = from true (knows_method names) (method_of text)
+
+-- the class that a class item's text names
+unfoldable pub knows_class_text : List (List ℕ) → List ℕ → Bool
+knows_class_text names text = if is_array text then knows_field_text names text else is_known names text
+
+-- the three tables of a pool
+pub record AreKnown (names : List (List ℕ)) (pool : List PoolItem) (known : Known) : Type 0 where
+  pub classes : AreTested (knows_class_text names) pool known.classes
+  pub fields : AreTested (knows_field_text names) pool known.fields
+  pub methods : AreTested (knows_method_text names) pool known.methods

@@ -1,5 +1,5 @@
 use Rattle.std.proofs.Common.{◌≡◌, length}
-use Rattle.link_uses.specs.Marks.{AreRight}
+use Rattle.link_rules.specs.Marks.{AreRight}
 use Rattle.link_uses.specs.Uses.{no_access_item}
 use Rattle.link_uses.proofs.access.allowed_texts.Given as goal
 

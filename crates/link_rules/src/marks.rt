@@ -3,12 +3,12 @@
 ghost use Rattle.std.specs.Prelude.{◌≡◌, Some, IfSome, slice_get};
 ghost use Rattle.std.specs.Option.{option_copied};
 ghost use Rattle.class_names.specs.Texts.{class_text, member_in, member_of_pair};
-ghost use Rattle.link_uses.specs.Marks.{IsTold};
+ghost use Rattle.link_rules.specs.Marks.{IsTold};
 
 use jvm_base::PoolItem;
 
 /// What is told of the text of the class item at an index.
-pub(crate) fn told_class(told: &[bool], pool: &[PoolItem], index: u16) -> Option<bool>
+pub fn told_class(told: &[bool], pool: &[PoolItem], index: u16) -> Option<bool>
     ensures { IfSome result (λ b. IsTold told.now pool.now (class_text pool.now index) b) }
 {
     match pool.get(index as usize) {
@@ -29,7 +29,7 @@ fn told_of_pair(told: &[bool], pool: &[PoolItem], class: u16, pair: u16) -> Opti
 }
 
 /// What is told of the text of a member item's class.
-pub(crate) fn told_owner(told: &[bool], pool: &[PoolItem], item: u16) -> Option<bool>
+pub fn told_owner(told: &[bool], pool: &[PoolItem], item: u16) -> Option<bool>
     ensures { IfSome result (λ b. IsTold told.now pool.now (member_in pool.now item).class b) }
 {
     match pool.get(item as usize) {
@@ -38,6 +38,31 @@ pub(crate) fn told_owner(told: &[bool], pool: &[PoolItem], item: u16) -> Option<
             | PoolItem::Method { class, pair }
             | PoolItem::InterfaceMethod { class, pair },
         ) => told_of_pair(told, pool, *class, *pair),
+        _ => None,
+    }
+}
+
+/// What is told of the text of the descriptor of a name and descriptor.
+fn told_of_desc(told: &[bool], pool: &[PoolItem], class: u16, pair: u16) -> Option<bool>
+    ensures { IfSome result (λ b. IsTold told.now pool.now
+        (member_of_pair pool.now class (slice_get pool.now pair)).desc b) }
+{
+    match pool.get(pair as usize) {
+        Some(PoolItem::NameAndKind { desc, .. }) => told.get(*desc as usize).copied(),
+        _ => None,
+    }
+}
+
+/// What is told of the text of a member item's descriptor.
+pub(crate) fn told_desc(told: &[bool], pool: &[PoolItem], item: u16) -> Option<bool>
+    ensures { IfSome result (λ b. IsTold told.now pool.now (member_in pool.now item).desc b) }
+{
+    match pool.get(item as usize) {
+        Some(
+            PoolItem::Field { class, pair }
+            | PoolItem::Method { class, pair }
+            | PoolItem::InterfaceMethod { class, pair },
+        ) => told_of_desc(told, pool, *class, *pair),
         _ => None,
     }
 }
