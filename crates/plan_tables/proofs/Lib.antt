@@ -1,0 +1,5 @@
+pub mod Lists
+pub mod First
+pub mod OverLaws
+pub mod KindLaws
+pub mod MarkLaws

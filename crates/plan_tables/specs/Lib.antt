@@ -1,0 +1,3 @@
+pub mod Whole
+pub mod Finding
+pub mod Kept
