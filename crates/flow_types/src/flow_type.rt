@@ -140,7 +140,7 @@ fn merge_unlike(image: &Image, a: FlowType, b: FlowType) -> FlowType
 }
 
 /// The least type that both fit.
-pub(crate) fn merge_type(image: &Image, a: FlowType, b: FlowType) -> FlowType
+pub fn merge_type(image: &Image, a: FlowType, b: FlowType) -> FlowType
     requires tree { IsTree (superclasses image.now) }
     ensures { result ≡ joined (superclasses image.now) a b }
 {

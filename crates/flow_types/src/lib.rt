@@ -10,6 +10,6 @@ mod superclass;
 
 pub use element::{Element, Primitive};
 pub use flow_frame::{FlowFrame, merge, merge_counted};
-pub use flow_type::{FlowType, fits};
+pub use flow_type::{FlowType, fits, merge_type};
 pub use steps::Steps;
 pub use superclass::{is_sub, parent};

@@ -99,7 +99,8 @@ pub fn pure_step(code: &Code, frame: &mut Frame, given: Given) -> Pure
     }
 }
 
-fn call_count(op: u8, desc: &MethodDesc) -> u32
+/// How many values a call takes: the receiver, where there is one, and the arguments.
+pub fn call_count(op: u8, desc: &MethodDesc) -> u32
     requires { length desc.now.args ≤ 255 }
     ensures { result ≡ call_count op desc.now }
 {

@@ -1,5 +1,5 @@
 -- The types of classes, descriptors and constants (JVMS2 4.3.2, 4.9.3).
-use Rattle.std.specs.Prelude.{ℕ, suc, Bool, false, ◌+◌, ◌==◌, min, if◌then◌else◌, List, [], ◌∷◌, Option, Some, None, nat_eq, slice_get}
+use Rattle.std.specs.Prelude.{ℕ, suc, Bool, false, ◌+◌, ◌==◌, min, if◌then◌else◌, ◌||◌, List, [], ◌∷◌, Option, Some, None, nat_eq, slice_get}
 use Rattle.std.specs.Cmp.Lexicographic.{pointwise}
 use Rattle.jvm_base.specs.Words.{from}
 use Rattle.jvm_base.specs.declared.desc.Elem.{Elem}
@@ -8,6 +8,7 @@ use Rattle.jvm_base.specs.declared.desc.Desc.{Desc}
 use Rattle.jvm_base.specs.declared.value.Value.{Value}
 use Rattle.jvm_base.specs.declared.value.Value.TheVariants as value
 use Rattle.class_format.specs.Flags.{has_flag, is_interface, is_private, is_static}
+use Rattle.class_format.specs.KnownTexts.{is_clinit}
 use Rattle.program_image.specs.declared.info.ClassInfo.{ClassInfo}
 use Rattle.program_image.specs.declared.info.MethodInfo.{MethodInfo}
 use Rattle.program_image.specs.declared.info.ArrayInfo.{ArrayInfo}
@@ -145,9 +146,9 @@ init_name = 60 ∷ 105 ∷ 110 ∷ 105 ∷ 116 ∷ 62 ∷ []
 abbrev pub is_initialiser : Program → ℕ → Bool
 is_initialiser p m = pointwise nat_eq (name_of p m) init_name
 
--- the method has no receiver
+-- a call of the method has no receiver: `<clinit>` counts as static, whatever its flags (JVMS2 4.6)
 abbrev pub is_static_method : Program → ℕ → Bool
-is_static_method p m = is_static (flags_of p m)
+is_static_method p m = is_static (flags_of p m) || is_clinit (name_of p m)
 
 -- the method is its class's alone
 abbrev pub is_private_method : Program → ℕ → Bool

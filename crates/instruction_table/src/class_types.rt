@@ -5,7 +5,7 @@ ghost use Rattle.program_image.specs.Program.{target_of};
 ghost use Rattle.flow_types.specs.Primitives.{primitive_of};
 ghost use Rattle.instruction_table.specs.ClassTypes.{is_an_interface, plain, class_named, element_type, array_at, class_type, ground_type, desc_type, array_over, class_in, field_class_in, method_in, value_type, constant_type, owner_of, name_of, flags_of, result_of, is_initialiser, is_static_method, is_private_method, is_super, init_name, new_class};
 
-use class_format::{PRIVATE, STATIC, has_flag};
+use class_format::{CLINIT, PRIVATE, STATIC, has_flag};
 use code_table::element_kind;
 use flow_types::{Element, FlowType, Primitive};
 use jvm_base::{Desc, Elem, Units, Value};
@@ -210,11 +210,15 @@ pub fn is_initialiser(image: &Image, method: u32) -> bool
     method < image.methods() && image.method(method).name.as_slice() == INIT.as_slice()
 }
 
-/// Whether a method is static.
+/// Whether a call of a method has no receiver. `<clinit>` counts as static, whatever its flags.
 pub fn is_static(image: &Image, method: u32) -> bool
     ensures { result ≡ is_static_method image.now method }
 {
-    method < image.methods() && has_flag(image.method(method).flags, STATIC)
+    if method >= image.methods() {
+        return false;
+    }
+    let info = image.method(method);
+    has_flag(info.flags, STATIC) || info.name.as_slice() == CLINIT.as_slice()
 }
 
 /// Whether a method is private.
