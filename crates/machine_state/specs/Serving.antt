@@ -1,5 +1,5 @@
 -- How the code tells what a served request does.
-use Rattle.std.specs.Prelude.{◌≡◌, ℕ, Bool, List, [], ◌∷◌, ◌++◌, map, Option, Some, None}
+use Rattle.std.specs.Prelude.{◌≡◌, ℕ, Bool, true, List, [], ◌∷◌, ◌++◌, map, Option, Some, None}
 use Rattle.jvm_base.specs.Names.{named, no_name}
 use Rattle.jvm_base.specs.declared.name.Name.{Name}
 use Rattle.jvm_base.specs.declared.value.ObjectBody.{ObjectBody}
@@ -73,12 +73,13 @@ abbrev pub Meets : Wish → Deed → Choice → Type 0
 Meets (wish.Exactly wished) d c = c ≡ wished
 Meets (wish.Fresh t node index) d c = c ≡ fresh_choice t node index d
 
--- what is told of a deed is right: of the choice's pick and name, its changes, its answer
+-- what is told of a deed is right: of the choice's pick and name, its changes, its answer. Where the
+-- name doesn't fit there may be no names for what would be made, and no changes need be told
 pub record IsServed (m : State) (w : Wish) (d : Deed) (s : Served) : Type 0 where
   pub choice : Meets w d s.choice
   pub pick : s.pick_fits ≡ pick_fits s.choice.pick d.waiters
   pub name : s.name_fits ≡ name_fits m.heap s.choice.name d.makes
-  pub changes : changes_of m.heap s.effects ≡ d.changes
+  pub changes : s.name_fits ≡ true → changes_of m.heap s.effects ≡ d.changes
   pub answer : s.answer ≡ d.answer
 
 -- of what is done by choice: nothing is told where nothing can be done, whatever the choice
