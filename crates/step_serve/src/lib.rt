@@ -2,7 +2,9 @@
 //! pick and name fit, what changes, and the answer. Nothing is changed here.
 #![tactic(auto)]
 
+mod cell;
 mod names;
 mod telling;
 
+pub use cell::{BodyRef, Cell};
 pub use names::Names;
