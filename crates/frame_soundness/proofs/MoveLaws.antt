@@ -491,7 +491,7 @@ module _ (image : Program) (method : ℕ) (there : Name → Bool) where
         let (x, y) = append_empty (need_rules (superclasses image) (owner_of image method) n t) (needs_rules (superclasses image) (owner_of image method) ns ts) m in
         and_both _ _ (met-of image subs.tree method there n v t ((and_parts _ _ p).1) x) (init-met c r ns vs ts q y k)
 
-    call-safe : (k : ℕ) (d : MethodDesc) (m : ℕ) (ls vs : List Value) (w : Work) → Fits image method there ls vs w → row_rules (site_of image method) (invoke_row image (owner_of image method) k d m) w ≡ [] → Safe (call_move k (length d.args) vs)
+    pub call-safe : (k : ℕ) (d : MethodDesc) (m : ℕ) (ls vs : List Value) (w : Work) → Fits image method there ls vs w → row_rules (site_of image method) (invoke_row image (owner_of image method) k d m) w ≡ [] → Safe (call_move k (length d.args) vs)
     call-safe k d m ls vs w f h = by_static (k == code.INVOKESTATIC) (k == code.INVOKESPECIAL && is_initialiser image m) h
       where
         needs_of : Need → List Need

@@ -12,7 +12,7 @@ use Rattle.code_table.specs.declared.op.Op.TheVariants as op
 use Rattle.code_table.specs.declared.opcode.TheConstants as code
 use Rattle.hierarchy.specs.Walks.{has}
 use Rattle.program_image.specs.declared.info.ArrayInfo.{ArrayInfo}
-use Rattle.program_image.specs.declared.info.Body.TheVariants.{Intrinsic}
+use Rattle.program_image.specs.declared.info.Body.TheVariants.{Intrinsic, Abstract}
 use Rattle.program_image.specs.declared.info.FieldInfo.{FieldInfo}
 use Rattle.program_image.specs.declared.info.Target.{Target}
 use Rattle.program_image.specs.declared.info.Target.TheVariants as target
@@ -123,7 +123,7 @@ IsConstant p t = (v : Value) × (t ≡ Some (target.Constant v)) × IsLiteral p 
 abbrev pub IsArrayClass : Program → ℕ → FlowType → Type 0
 IsArrayClass p c t = (a : ArrayInfo) × (array_at p c ≡ Some a) × (class_type p c ≡ t)
 
--- what an instruction names is there and of its kind
+-- what an instruction names is there and of its kind; `invokespecial` names nothing abstract
 abbrev pub IsLinked : Program → Op → Option Target → Type 0
 IsLinked p (op.Ldc i) t = IsConstant p t
 IsLinked p (op.Ldc2 i) t = IsConstant p t
@@ -138,6 +138,7 @@ IsLinked p (op.Invoke o i d) t =
     (desc_of p (method_in t) ≡ Some d)
     × (is_static_method p (method_in t) ≡ (o == code.INVOKESTATIC))
     × (owner_of p (method_in t) < length p.classes)
+    × ((o == code.INVOKESPECIAL) ≡ true → body_of p (method_in t) ≡ Abstract → ⊥)
 IsLinked p (op.New i) t =
     (class_in t < length p.classes) × (array_at p (class_in t) ≡ None)
     × (class_type p (class_in t) ≡ flow.Class (class_in t))
@@ -192,7 +193,7 @@ pub record Classes (p : Program) : Type 0 where
   pub owners : (k m : ℕ) → has (methods_of p.classes k) m ≡ true → IsOwned p k m
   pub coded_in : (m : ℕ) (c : Code) → code_of p m ≡ Some c → array_at p (owner_of p m) ≡ None
   pub inits : (m : ℕ) → is_static_method p m ≡ false → is_initialiser p m ≡ true →
-      plain p (owner_of p m) ≡ owner_of p m
+      (body_of p m ≡ Abstract → ⊥) → plain p (owner_of p m) ≡ owner_of p m
   pub parts : (c part : ℕ) (a : ArrayInfo) → array_at p c ≡ Some a → a.part ≡ Some part →
       class_type p part ≡ component_type p a
 

@@ -5,3 +5,4 @@ pub mod HeapPlans
 pub mod StorePlans
 pub mod MakePlans
 pub mod DescLaws
+pub mod SelectLaws
