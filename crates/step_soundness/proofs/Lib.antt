@@ -6,3 +6,4 @@ pub mod StorePlans
 pub mod MakePlans
 pub mod DescLaws
 pub mod SelectLaws
+pub mod CallPlans
