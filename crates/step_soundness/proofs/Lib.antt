@@ -7,3 +7,5 @@ pub mod MakePlans
 pub mod DescLaws
 pub mod SelectLaws
 pub mod CallPlans
+pub mod IntrinsicPlans
+pub mod BodyPlans
