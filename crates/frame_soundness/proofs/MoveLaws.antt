@@ -60,7 +60,7 @@ use Rattle.machine_state.specs.Instructions.{given_to, given_fits}
 use Rattle.frame_soundness.specs.AcceptedProgram.{Subs, IsSwitch, next_at}
 use Rattle.frame_soundness.specs.Fitting.{Both, Fits}
 use Rattle.frame_soundness.specs.Meeting.{met, all_met}
-use Rattle.frame_soundness.specs.Moving.{IsThrown, Moves, IsPushed, IsTold, MovesLaw}
+use Rattle.frame_soundness.specs.Moving.{IsThrown, MayAsk, MayCall, Moves, IsPushed, IsTold, MovesLaw}
 use Rattle.frame_soundness.specs.Values.{is_there, erased, held, all_held}
 use Rattle.frame_soundness.proofs.HeldLaws.{ClassShape, a_class, an_array, class-shape, int-met, met-of, all-met, Reference, nothing_there, object, reference as reference_is}
 use Rattle.frame_soundness.proofs.RowLaws.{all_there, all-there, acts-fit, reads-fit, writes-fit, drops-fit, doubles-fit, swaps-fit, bumps-fit, read-some, both-none, both-cons, no-values, held-local}
@@ -86,12 +86,12 @@ eqb-refl n = grind (arith, nat_tests)
 
 -- ---- moves that put nothing
 
--- something is asked, or raised
-abbrev pub Safe : Move → Type 0
-Safe Asks = Unit {0}
-Safe Calls = Unit {0}
-Safe (Raises k) = Unit {0}
-Safe _ = ⊥
+-- something is asked (true) or called (false), or raised
+abbrev pub Safe : Bool → Move → Type 0
+Safe true Asks = Unit {0}
+Safe false Calls = Unit {0}
+Safe b (Raises k) = Unit {0}
+Safe b _ = ⊥
 
 -- a need that only references and null meet
 abbrev pub OfReference : Need → Type 0
@@ -100,20 +100,21 @@ OfReference need.Long = ⊥
 OfReference _ = Unit {0}
 
 module _ (image : Program) where
-  unless-safe : (n : Need) (v : Value) (m : Move) → OfReference n → met image n v ≡ true → Safe m → Safe (unless_null m v)
-  unless-safe n (Ref o) m r h s = s
-  unless-safe n Null m r h s = tt
-  unless-safe need.Int (Int a) m r h s = absurd r
-  unless-safe need.Long (Long a) m r h s = absurd r
-  unless-safe _ (Int a) m r h s = absurd cc
-  unless-safe _ (Long a) m r h s = absurd cc
+  unless-safe : (b : Bool) (n : Need) (v : Value) (m : Move) → OfReference n → met image n v ≡ true → Safe b m → Safe b (unless_null m v)
+  unless-safe b n (Ref o) m r h s = s
+  unless-safe true n Null m r h s = tt
+  unless-safe false n Null m r h s = tt
+  unless-safe b need.Int (Int a) m r h s = absurd r
+  unless-safe b need.Long (Long a) m r h s = absurd r
+  unless-safe b _ (Int a) m r h s = absurd cc
+  unless-safe b _ (Long a) m r h s = absurd cc
 
   -- an operand that must be a reference is one, or null
-  pub safe-reference : (depth : ℕ) (ns : List Need) (vs : List Value) (n : Need) (m : Move) → all_met image ns vs ≡ true → slice_get ns depth ≡ Some n → OfReference n → Safe m → Safe (with_reference depth m vs)
-  safe-reference depth [] vs n m h e r s = absurd cc
-  safe-reference depth (k ∷ ns) [] n m h e r s = absurd cc
-  safe-reference zero (k ∷ ns) (v ∷ vs) n m h e r s = let q : k ≡ n = cc in unless-safe k v m (subst OfReference (sym q) r) ((and_parts _ _ h).0) s
-  safe-reference (suc d) (k ∷ ns) (v ∷ vs) n m h e r s = safe-reference d ns vs n m ((and_parts _ _ h).1) e r s
+  pub safe-reference : (b : Bool) (depth : ℕ) (ns : List Need) (vs : List Value) (n : Need) (m : Move) → all_met image ns vs ≡ true → slice_get ns depth ≡ Some n → OfReference n → Safe b m → Safe b (with_reference depth m vs)
+  safe-reference b depth [] vs n m h e r s = absurd cc
+  safe-reference b depth (k ∷ ns) [] n m h e r s = absurd cc
+  safe-reference b zero (k ∷ ns) (v ∷ vs) n m h e r s = let q : k ≡ n = cc in unless-safe b k v m (subst OfReference (sym q) r) ((and_parts _ _ h).0) s
+  safe-reference b (suc d) (k ∷ ns) (v ∷ vs) n m h e r s = safe-reference b d ns vs n m ((and_parts _ _ h).1) e r s
 
 pub get-last : {A : Type 0} (xs : List A) (x : A) (n : ℕ) → length xs ≡ n → slice_get (xs ++ x ∷ []) n ≡ Some x
 get-last [] x zero e = refl
@@ -132,9 +133,8 @@ abbrev pub Acted : Program → ℕ → (Name → Bool) → Op → ℕ → List F
 Acted image method there o n ts vs (Goes us) = (falls o ≡ true) × (rs : List Value) × (us ≡ rs ++ drop n vs) × Both image method there rs ts
 Acted image method there o n ts vs (Jumps to us) = (has (jumps o) to ≡ true) × (rs : List Value) × (us ≡ rs ++ drop n vs) × Both image method there rs ts
 Acted image method there o n ts vs (Throws e) = IsThrown image there e
-Acted image method there o n ts vs (Sets i new us) = ⊥
-Acted image method there o n ts vs Stuck = ⊥
-Acted image method there o n ts vs _ = Unit {0}
+Acted image method there o n ts vs (Raises k) = Unit {0}
+Acted image method there o n ts vs _ = ⊥
 
 module _ (image : Program) (method : ℕ) (there : Name → Bool) where
   -- the generic step from what is owed to the frame after
@@ -144,21 +144,32 @@ module _ (image : Program) (method : ℕ) (there : Name → Bool) where
   acted o needs g ls vs w (Sets i new us) f h = absurd h
   acted o needs g ls vs w (Throws e) f h = h
   acted o needs g ls vs w (Raises k) f h = tt
-  acted o needs g ls vs w Asks f h = tt
-  acted o needs g ls vs w Calls f h = tt
-  acted o needs g ls vs w (Leaves v) f h = tt
+  acted o needs g ls vs w Asks f h = absurd h
+  acted o needs g ls vs w Calls f h = absurd h
+  acted o needs g ls vs w (Leaves v) f h = absurd h
   acted o needs g ls vs w Stuck f h = absurd h
 
-  safe : (o : Op) (ls : List Value) (w : Work) (m : Move) → Safe m → Moves image method there ls o w m
-  safe o ls w Asks s = tt
-  safe o ls w Calls s = tt
-  safe o ls w (Raises k) s = tt
-  safe o ls w (Goes vs) s = absurd s
-  safe o ls w (Jumps to vs) s = absurd s
-  safe o ls w (Sets i new vs) s = absurd s
-  safe o ls w (Throws e) s = absurd s
-  safe o ls w (Leaves v) s = absurd s
-  safe o ls w Stuck s = absurd s
+  safe-asks : (o : Op) (ls : List Value) (w : Work) (m : Move) → MayAsk o → Safe true m → Moves image method there ls o w m
+  safe-asks o ls w Asks k s = k
+  safe-asks o ls w (Raises x) k s = tt
+  safe-asks o ls w Calls k s = absurd s
+  safe-asks o ls w (Goes vs) k s = absurd s
+  safe-asks o ls w (Jumps to vs) k s = absurd s
+  safe-asks o ls w (Sets i new vs) k s = absurd s
+  safe-asks o ls w (Throws e) k s = absurd s
+  safe-asks o ls w (Leaves v) k s = absurd s
+  safe-asks o ls w Stuck k s = absurd s
+
+  safe-calls : (o : Op) (ls : List Value) (w : Work) (m : Move) → MayCall o → Safe false m → Moves image method there ls o w m
+  safe-calls o ls w Calls k s = k
+  safe-calls o ls w (Raises x) k s = tt
+  safe-calls o ls w Asks k s = absurd s
+  safe-calls o ls w (Goes vs) k s = absurd s
+  safe-calls o ls w (Jumps to vs) k s = absurd s
+  safe-calls o ls w (Sets i new vs) k s = absurd s
+  safe-calls o ls w (Throws e) k s = absurd s
+  safe-calls o ls w (Leaves v) k s = absurd s
+  safe-calls o ls w Stuck k s = absurd s
 
   -- one value of a type
   single : (v : Value) (t : FlowType) → held image method there v t ≡ true → is_operand t ≡ true → Both image method there (v ∷ []) (t ∷ [])
@@ -412,37 +423,37 @@ module _ (image : Program) (method : ℕ) (there : Name → Bool) where
     -- ---- references
 
     -- an instruction that asks for what its operands name is so far safe
-    abbrev SafeAt : ℕ → Move → List Value → List Value → Work → Row → Type 0
-    SafeAt depth m ls vs w r = row_rules (site_of image method) r w ≡ [] → Safe (with_reference depth m vs)
+    abbrev SafeAt : Bool → ℕ → Move → List Value → List Value → Work → Row → Type 0
+    SafeAt b depth m ls vs w r = row_rules (site_of image method) r w ≡ [] → Safe b (with_reference depth m vs)
 
-    safe-acts : (depth : ℕ) (m : Move) → Safe m → (ls vs : List Value) (w : Work) → Fits image method there ls vs w → (needs : List Need) (g : Gives) (n : Need) → slice_get needs depth ≡ Some n → OfReference n → SafeAt depth m ls vs w (row_of.Acts needs g)
-    safe-acts depth m s ls vs w f needs g n e r h = safe-reference image depth needs vs n m (needs-met needs ls vs w f h) e r s
+    safe-acts : (b : Bool) (depth : ℕ) (m : Move) → Safe b m → (ls vs : List Value) (w : Work) → Fits image method there ls vs w → (needs : List Need) (g : Gives) (n : Need) → slice_get needs depth ≡ Some n → OfReference n → SafeAt b depth m ls vs w (row_of.Acts needs g)
+    safe-acts b depth m s ls vs w f needs g n e r h = safe-reference image b depth needs vs n m (needs-met needs ls vs w f h) e r s
 
-    load-safe : (k : ℕ) (ls vs : List Value) (w : Work) → Fits image method there ls vs w → SafeAt 1 Asks ls vs w (array_load k)
-    load-safe k ls vs w f = in-table (SafeAt 1 Asks ls vs w) array_loads (row_of.Acts (need.Int ∷ need.References ∷ []) gives.Part) k (one primitive.Int (gives.One flow.Int), (one primitive.Long (gives.One flow.Long), (one primitive.Byte (gives.One flow.Int), (one primitive.Char (gives.One flow.Int), (one primitive.Short (gives.One flow.Int), tt)))))
-        (safe-acts 1 Asks tt ls vs w f (need.Int ∷ need.References ∷ []) gives.Part need.References refl tt)
+    load-safe : (k : ℕ) (ls vs : List Value) (w : Work) → Fits image method there ls vs w → SafeAt true 1 Asks ls vs w (array_load k)
+    load-safe k ls vs w f = in-table (SafeAt true 1 Asks ls vs w) array_loads (row_of.Acts (need.Int ∷ need.References ∷ []) gives.Part) k (one primitive.Int (gives.One flow.Int), (one primitive.Long (gives.One flow.Long), (one primitive.Byte (gives.One flow.Int), (one primitive.Char (gives.One flow.Int), (one primitive.Short (gives.One flow.Int), tt)))))
+        (safe-acts true 1 Asks tt ls vs w f (need.Int ∷ need.References ∷ []) gives.Part need.References refl tt)
       where
-        one : (j : PrimitiveType) (g : Gives) → SafeAt 1 Asks ls vs w (row_of.Acts (need.Int ∷ need.Primitives j ∷ []) g)
-        one j g = safe-acts 1 Asks tt ls vs w f (need.Int ∷ need.Primitives j ∷ []) g (need.Primitives j) refl tt
+        one : (j : PrimitiveType) (g : Gives) → SafeAt true 1 Asks ls vs w (row_of.Acts (need.Int ∷ need.Primitives j ∷ []) g)
+        one j g = safe-acts true 1 Asks tt ls vs w f (need.Int ∷ need.Primitives j ∷ []) g (need.Primitives j) refl tt
 
-    store-safe : (k : ℕ) (ls vs : List Value) (w : Work) → Fits image method there ls vs w → SafeAt 2 Asks ls vs w (array_store k)
-    store-safe k ls vs w f = in-table (SafeAt 2 Asks ls vs w) array_stores (row_of.Acts (reference ∷ need.Int ∷ need.References ∷ []) gives.Nothing) k (one primitive.Int need.Int, (one primitive.Long need.Long, (one primitive.Byte need.Int, (one primitive.Char need.Int, (one primitive.Short need.Int, tt)))))
-        (safe-acts 2 Asks tt ls vs w f (reference ∷ need.Int ∷ need.References ∷ []) gives.Nothing need.References refl tt)
+    store-safe : (k : ℕ) (ls vs : List Value) (w : Work) → Fits image method there ls vs w → SafeAt true 2 Asks ls vs w (array_store k)
+    store-safe k ls vs w f = in-table (SafeAt true 2 Asks ls vs w) array_stores (row_of.Acts (reference ∷ need.Int ∷ need.References ∷ []) gives.Nothing) k (one primitive.Int need.Int, (one primitive.Long need.Long, (one primitive.Byte need.Int, (one primitive.Char need.Int, (one primitive.Short need.Int, tt)))))
+        (safe-acts true 2 Asks tt ls vs w f (reference ∷ need.Int ∷ need.References ∷ []) gives.Nothing need.References refl tt)
       where
-        one : (j : PrimitiveType) (v : Need) → SafeAt 2 Asks ls vs w (row_of.Acts (v ∷ need.Int ∷ need.Primitives j ∷ []) gives.Nothing)
-        one j v = safe-acts 2 Asks tt ls vs w f (v ∷ need.Int ∷ need.Primitives j ∷ []) gives.Nothing (need.Primitives j) refl tt
+        one : (j : PrimitiveType) (v : Need) → SafeAt true 2 Asks ls vs w (row_of.Acts (v ∷ need.Int ∷ need.Primitives j ∷ []) gives.Nothing)
+        one j v = safe-acts true 2 Asks tt ls vs w f (v ∷ need.Int ∷ need.Primitives j ∷ []) gives.Nothing (need.Primitives j) refl tt
 
-    field-safe : (k : ℕ) (t : FlowType) (c : ℕ) (ls vs : List Value) (w : Work) → Fits image method there ls vs w → row_rules (site_of image method) (field_row image k t c) w ≡ [] → Safe (field_move k vs)
+    field-safe : (k : ℕ) (t : FlowType) (c : ℕ) (ls vs : List Value) (w : Work) → Fits image method there ls vs w → row_rules (site_of image method) (field_row image k t c) w ≡ [] → Safe true (field_move k vs)
     field-safe k t c ls vs w f h = by_test (k == code.GETFIELD) h
       where
-        by_test : (b : Bool) → row_rules (site_of image method) (if b then row_of.Acts (object_of image c ∷ []) (gives.One t) else row_of.Acts (value rule.REFERENCE t ∷ need.Own c ∷ []) gives.Nothing) w ≡ [] → Safe (with_reference (if b then 0 else 1) Asks vs)
-        by_test true h = safe-acts 0 Asks tt ls vs w f (object_of image c ∷ []) (gives.One t) (object_of image c) refl tt h
-        by_test false h = safe-acts 1 Asks tt ls vs w f (value rule.REFERENCE t ∷ need.Own c ∷ []) gives.Nothing (need.Own c) refl tt h
+        by_test : (b : Bool) → row_rules (site_of image method) (if b then row_of.Acts (object_of image c ∷ []) (gives.One t) else row_of.Acts (value rule.REFERENCE t ∷ need.Own c ∷ []) gives.Nothing) w ≡ [] → Safe true (with_reference (if b then 0 else 1) Asks vs)
+        by_test true h = safe-acts true 0 Asks tt ls vs w f (object_of image c ∷ []) (gives.One t) (object_of image c) refl tt h
+        by_test false h = safe-acts true 1 Asks tt ls vs w f (value rule.REFERENCE t ∷ need.Own c ∷ []) gives.Nothing (need.Own c) refl tt h
 
-    sizes-safe : (n : ℕ) (vs : List Value) → Safe (with_sizes n vs)
+    sizes-safe : (n : ℕ) (vs : List Value) → Safe true (with_sizes n vs)
     sizes-safe n vs = by_test (list_any is_negative_size (take n vs))
       where
-        by_test : (b : Bool) → Safe (if b then Raises fault.NegativeSize else Asks)
+        by_test : (b : Bool) → Safe true (if b then Raises fault.NegativeSize else Asks)
         by_test true = tt
         by_test false = tt
 
@@ -491,7 +502,7 @@ module _ (image : Program) (method : ℕ) (there : Name → Bool) where
         let (x, y) = append_empty (need_rules (superclasses image) (owner_of image method) n t) (needs_rules (superclasses image) (owner_of image method) ns ts) m in
         and_both _ _ (met-of image subs.tree method there n v t ((and_parts _ _ p).1) x) (init-met c r ns vs ts q y k)
 
-    pub call-safe : (k : ℕ) (d : MethodDesc) (m : ℕ) (ls vs : List Value) (w : Work) → Fits image method there ls vs w → row_rules (site_of image method) (invoke_row image (owner_of image method) k d m) w ≡ [] → Safe (call_move k (length d.args) vs)
+    pub call-safe : (k : ℕ) (d : MethodDesc) (m : ℕ) (ls vs : List Value) (w : Work) → Fits image method there ls vs w → row_rules (site_of image method) (invoke_row image (owner_of image method) k d m) w ≡ [] → Safe false (call_move k (length d.args) vs)
     call-safe k d m ls vs w f h = by_static (k == code.INVOKESTATIC) (k == code.INVOKESPECIAL && is_initialiser image m) h
       where
         needs_of : Need → List Need
@@ -500,12 +511,12 @@ module _ (image : Program) (method : ℕ) (there : Name → Bool) where
         last : (n : Need) → slice_get (arguments image d.args ++ n ∷ []) (length d.args) ≡ Some n
         last n = get-last (arguments image d.args) n (length d.args) (arguments-length image d.args)
 
-        by_static : (a b : Bool) → row_rules (site_of image method) (if a then row_of.Acts (arguments image d.args) (result image d.ret) else (if b then row_of.Inits (arguments image d.args) (owner_of image m) (result image d.ret) else row_of.Acts (arguments image d.args ++ object_of image (receiver_class image (owner_of image method) k m) ∷ []) (result image d.ret))) w ≡ [] → Safe (if a then Calls else with_reference (length d.args) Calls vs)
+        by_static : (a b : Bool) → row_rules (site_of image method) (if a then row_of.Acts (arguments image d.args) (result image d.ret) else (if b then row_of.Inits (arguments image d.args) (owner_of image m) (result image d.ret) else row_of.Acts (arguments image d.args ++ object_of image (receiver_class image (owner_of image method) k m) ∷ []) (result image d.ret))) w ≡ [] → Safe false (if a then Calls else with_reference (length d.args) Calls vs)
         by_static true b h = tt
         by_static false true h =
             let (x, y) = append_empty (needs_rules (superclasses image) (owner_of image method) (arguments image d.args) w.stack) _ h in
-            safe-reference image (length d.args) (arguments image d.args ++ need.Fitting 8 (flow.Class (owner_of image m)) ∷ []) vs _ Calls (init-met (owner_of image m) 8 (arguments image d.args) vs w.stack f.stack.held x y) (last _) tt tt
-        by_static false false h = safe-acts (length d.args) Calls tt ls vs w f (arguments image d.args ++ object_of image (receiver_class image (owner_of image method) k m) ∷ []) (result image d.ret) _ (last _) tt h
+            safe-reference image false (length d.args) (arguments image d.args ++ need.Fitting 8 (flow.Class (owner_of image m)) ∷ []) vs _ Calls (init-met (owner_of image m) 8 (arguments image d.args) vs w.stack f.stack.held x y) (last _) tt tt
+        by_static false false h = safe-acts false (length d.args) Calls tt ls vs w f (arguments image d.args ++ object_of image (receiver_class image (owner_of image method) k m) ∷ []) (result image d.ret) _ (last _) tt h
 
     -- ---- all instructions
 
@@ -521,9 +532,9 @@ module _ (image : Program) (method : ℕ) (there : Name → Bool) where
     all-moves at (op.Ldc i) ls vs w s k f h = push (op.Ldc i) (target_of image method at) _ ls vs w f refl k refl
     all-moves at (op.Ldc2 i) ls vs w s k f h = push (op.Ldc2 i) (target_of image method at) _ ls vs w f refl k refl
     all-moves at (op.Load k i) ls vs w s k0 f h = (refl, reads-fit image method there (load_slot k) i ls vs w f h)
-    all-moves at (op.ArrayLoad k) ls vs w s k0 f h = safe (op.ArrayLoad k) ls _ _ (load-safe k ls vs w f h)
+    all-moves at (op.ArrayLoad k) ls vs w s k0 f h = safe-asks (op.ArrayLoad k) ls _ _ tt (load-safe k ls vs w f h)
     all-moves at (op.Store k i) ls vs w s k0 f h = store k i ls vs w f h
-    all-moves at (op.ArrayStore k) ls vs w s k0 f h = safe (op.ArrayStore k) ls _ _ (store-safe k ls vs w f h)
+    all-moves at (op.ArrayStore k) ls vs w s k0 f h = safe-asks (op.ArrayStore k) ls _ _ tt (store-safe k ls vs w f h)
     all-moves at (op.Pop k) ls vs w s k0 f h = pop k ls vs w f h
     all-moves at (op.Dup k) ls vs w s k0 f h = dup k ls vs w f h
     all-moves at op.Swap ls vs w s k f h = (refl, swaps-fit image method there ls vs w f)
@@ -544,16 +555,16 @@ module _ (image : Program) (method : ℕ) (there : Name → Bool) where
     all-moves at (op.LookupSwitch other pairs) ls vs w s k f h = acted (op.LookupSwitch other pairs) (need.Int ∷ []) gives.Nothing ls vs w _ f (pair-switch other pairs vs (needs-met (need.Int ∷ []) ls vs w f h))
     all-moves at (op.Return k) ls vs w s k0 f h = tt
     all-moves at (op.Static k i d) ls vs w s k0 f h = tt
-    all-moves at (op.Field k i d) ls vs w s k0 f h = safe (op.Field k i d) ls _ _ (field-safe k (desc_type image d) (field_class_in (target_of image method at)) ls vs w f h)
-    all-moves at (op.Invoke k i d) ls vs w s k0 f h = safe (op.Invoke k i d) ls _ _ (call-safe k d (method_in (target_of image method at)) ls vs w f h)
+    all-moves at (op.Field k i d) ls vs w s k0 f h = safe-asks (op.Field k i d) ls _ _ tt (field-safe k (desc_type image d) (field_class_in (target_of image method at)) ls vs w f h)
+    all-moves at (op.Invoke k i d) ls vs w s k0 f h = safe-calls (op.Invoke k i d) ls _ _ tt (call-safe k d (method_in (target_of image method at)) ls vs w f h)
     all-moves at (op.New i) ls vs w s k f h = tt
-    all-moves at (op.NewArray k) ls vs w s k0 f h = safe (op.NewArray k) ls _ _ (sizes-safe 1 vs)
-    all-moves at (op.AnewArray i) ls vs w s k f h = safe (op.AnewArray i) ls _ _ (sizes-safe 1 vs)
-    all-moves at op.ArrayLength ls vs w s k f h = safe op.ArrayLength ls _ _ (safe-acts 0 Asks tt ls vs w f (need.Array ∷ []) (gives.One flow.Int) need.Array refl tt h)
+    all-moves at (op.NewArray k) ls vs w s k0 f h = safe-asks (op.NewArray k) ls _ _ tt (sizes-safe 1 vs)
+    all-moves at (op.AnewArray i) ls vs w s k f h = safe-asks (op.AnewArray i) ls _ _ tt (sizes-safe 1 vs)
+    all-moves at op.ArrayLength ls vs w s k f h = safe-asks op.ArrayLength ls _ _ tt (safe-acts true 0 Asks tt ls vs w f (need.Array ∷ []) (gives.One flow.Int) need.Array refl tt h)
     all-moves at op.Athrow ls vs w s k f h = throw-move ls vs _ (all-there image method there vs w.stack f.stack.held) (needs-met (need.Fitting rule.REFERENCE (flow.Class 8) ∷ []) ls vs w f h)
     all-moves at (op.Cast k i) ls vs w s k0 f h = cast-move k i (target_of image method at) ls vs w f h (all-there image method there vs w.stack f.stack.held) (cast-met (target_of image method at) ls vs w f (k == code.CHECKCAST) h)
-    all-moves at (op.Monitor k) ls vs w s k0 f h = safe (op.Monitor k) ls _ _ (safe-acts 0 Asks tt ls vs w f (reference ∷ []) gives.Nothing reference refl tt h)
-    all-moves at (op.MultiNewArray i n) ls vs w s k f h = safe (op.MultiNewArray i n) ls _ _ (sizes-safe n vs)
+    all-moves at (op.Monitor k) ls vs w s k0 f h = safe-asks (op.Monitor k) ls _ _ tt (safe-acts true 0 Asks tt ls vs w f (reference ∷ []) gives.Nothing reference refl tt h)
+    all-moves at (op.MultiNewArray i n) ls vs w s k f h = safe-asks (op.MultiNewArray i n) ls _ _ tt (sizes-safe n vs)
 
 pub moves-fit : MovesLaw
 moves-fit image subs there m at o ls vs w s k f h = all-moves image m there subs at o ls vs w s k f h

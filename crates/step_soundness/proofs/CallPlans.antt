@@ -347,8 +347,8 @@ module _ (image : Program) (types : Types) (accepted : Accepted image types) (th
     object-call : (o == 184) ≡ false → Right (asked (receiver_call image who f o callee (call_values (call_count o d) f.stack.values)) (with_reference (length d.args) CallsIt f.stack.values))
     object-call q = by_value (slice_get f.stack.values (length d.args)) refl safe
       where
-        safe : Safe (with_reference (length d.args) CallsIt f.stack.values)
-        safe = subst (λ b. Safe (if b then CallsIt else with_reference (length d.args) CallsIt f.stack.values)) q (call-safe image f.method there accepted.subs o d callee f.locals f.stack.values s.work s.fits i.keeps)
+        safe : Safe false (with_reference (length d.args) CallsIt f.stack.values)
+        safe = subst (λ b. Safe false (if b then CallsIt else with_reference (length d.args) CallsIt f.stack.values)) q (call-safe image f.method there accepted.subs o d callee f.locals f.stack.values s.work s.fits i.keeps)
 
         w : ℕ
         w = wanted (o == 183) (is_initialiser image callee) (is_direct image current callee)
@@ -369,7 +369,7 @@ module _ (image : Program) (types : Types) (accepted : Accepted image types) (th
             let (y, z) = and_parts _ _ x2 in
             subst (λ z. Right (receiver_call image who f o callee z)) (sym e) (on-object q n us p r z y)
 
-        by_value : (v : Option Value) → slice_get f.stack.values (length d.args) ≡ v → Safe (from StuckThere (unless_null CallsIt) v) → Right (asked (receiver_call image who f o callee (call_values (call_count o d) f.stack.values)) (from StuckThere (unless_null CallsIt) v))
+        by_value : (v : Option Value) → slice_get f.stack.values (length d.args) ≡ v → Safe false (from StuckThere (unless_null CallsIt) v) → Right (asked (receiver_call image who f o callee (call_values (call_count o d) f.stack.values)) (from StuckThere (unless_null CallsIt) v))
         by_value None e k = absurd k
         by_value (Some (Int a)) e k = absurd k
         by_value (Some (Long a)) e k = absurd k
