@@ -71,7 +71,7 @@ linked-told image _ t h = tt
 
 -- ---- lengths
 
-slots-length : (ts : List FlowType) → length ts ≤ slots ts
+pub slots-length : (ts : List FlowType) → length ts ≤ slots ts
 slots-length [] = omega arith
 slots-length (t ∷ ts) = let h : length ts ≤ slots ts = slots-length ts in let k : 1 ≤ type_slots t = one t in omega arith
   where

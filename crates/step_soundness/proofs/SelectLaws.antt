@@ -51,16 +51,16 @@ result-is image m d e = by_method (method_at image m) e
     by_method None e = absurd cc
     by_method (Some i) e = ap (λ (z : MethodDesc). from None (λ r. Some (desc_type image r)) z.ret) (some_is e)
 
-either-true : (a b : Bool) → a ≡ true → not (not (a || b)) ≡ true
-either-true a b e = rw e refl
+double-not : (b : Bool) → b ≡ true → not (not b) ≡ true
+double-not b e = rw e refl
 
 -- a static method has no receiver
 pub static-alone : (image : Program) (m : ℕ) → is_static_method image m ≡ true → is_without_receiver image m ≡ true
 static-alone image m e = by_method (method_at image m) e
   where
-    by_method : (o : Option MethodInfo) → is_static (from 0 (λ i. i.flags) o) ≡ true → from false (λ i. not (is_instance i)) o ≡ true
+    by_method : (o : Option MethodInfo) → (is_static (from 0 (λ i. i.flags) o) || is_clinit (from [] (λ i. i.name) o)) ≡ true → from false (λ i. not (is_instance i)) o ≡ true
     by_method None e = absurd cc
-    by_method (Some i) e = either-true (is_static i.flags) (is_clinit i.name) e
+    by_method (Some i) e = double-not (is_static i.flags || is_clinit i.name) e
 
 -- ---- lists that are searched
 
@@ -122,10 +122,6 @@ not-true : (b : Bool) → not b ≡ true → b ≡ false
 not-true true h = absurd cc
 not-true false h = refl
 
-first-false : (a b : Bool) → (a || b) ≡ false → a ≡ false
-first-false true b h = absurd cc
-first-false false b h = refl
-
 module _ (image : Program) (types : Types) (accepted : Accepted image types) where
   abbrev Above : ℕ → ℕ → Type 0
   Above c k = is_below (superclasses image) c k ≡ true
@@ -151,12 +147,12 @@ module _ (image : Program) (types : Types) (accepted : Accepted image types) whe
   like-is : (called j m : ℕ) → like_one image.methods called j ≡ Some m → (j ≡ m) × Like called m
   like-is called j m h = by_test (is_like image.methods called j) refl h
     where
-      by_found : (x y : Option MethodInfo) → from false (λ x. from false (λ y. is_instance y && same_signature y x) y) x ≡ true → (is_static (from 0 (λ i. i.flags) y) ≡ false) × (from None (λ i. Some i.desc) y ≡ from None (λ i. Some i.desc) x)
+      by_found : (x y : Option MethodInfo) → from false (λ x. from false (λ y. is_instance y && same_signature y x) y) x ≡ true → ((is_static (from 0 (λ i. i.flags) y) || is_clinit (from [] (λ i. i.name) y)) ≡ false) × (from None (λ i. Some i.desc) y ≡ from None (λ i. Some i.desc) x)
       by_found None y h = absurd cc
       by_found (Some x) None h = absurd cc
       by_found (Some x) (Some y) h =
           let (p, q) = and_parts (is_instance y) (same_signature y x) h in
-          (first-false (is_static y.flags) (is_clinit y.name) (not-true _ p), ap Some (((signatures_told y x).0 q).1))
+          (not-true (is_static y.flags || is_clinit y.name) p, ap Some (((signatures_told y x).0 q).1))
 
       by_test : (b : Bool) → is_like image.methods called j ≡ b → (if b then Some j else None) ≡ Some m → (j ≡ m) × Like called m
       by_test false e h = absurd cc
