@@ -1,5 +1,0 @@
-pub mod Lists
-pub mod First
-pub mod OverLaws
-pub mod KindLaws
-pub mod MarkLaws

@@ -1,6 +1,0 @@
-use Rattle.std.proofs.Common.{arith}
-use Rattle.plan_tables.proofs.KindLaws.{kinds_are}
-use Rattle.plan_tables.proofs.arrays.kinds.Goals as goal
-
-pub returns : goal.returns
-returns c k = kinds_are c.args.image.now c.loop-kind.kinds (let a = c.loop-kind-test.false in let b = c.loop-kind.auto.kind-end in let d = c.loop-kind.invariant.count in omega arith) c.loop-kind.invariant.each k

@@ -1,5 +1,0 @@
-use Rattle.plan_tables.proofs.MarkLaws.{AreMarksFor}
-use Rattle.plan_tables.proofs.constants.marks.Given as goal
-
-abbrev pub invariant-loop-field : goal.invariant-loop-field
-invariant-loop-field l = AreMarksFor l.fields l.field-index l.marks

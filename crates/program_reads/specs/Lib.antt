@@ -1,0 +1,4 @@
+pub mod Whole
+pub mod Finding
+pub mod Kept
+pub mod Past
