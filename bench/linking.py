@@ -18,6 +18,10 @@ COUNTS = (10, 100, 1000)
 USES = 20
 METHOD_LIMIT = 65000
 LONG_NAME = b"L" * 65000
+LONG_DESC = b"L" + LONG_NAME + b";"
+SHORT_NAME = b"p/Target"
+ARGUMENT = b"A" * 250
+MANY_LONG = b"(" + (b"L" + ARGUMENT + b";") * 255 + b")V"
 
 
 def declared(pool, flags, name, desc):
@@ -122,17 +126,52 @@ def overridden(count, methods, flags=PUBLIC | ABSTRACT, package=b"p/"):
 
 def long_named(uses):
     """A class whose code uses a class of a long name in each instruction."""
-    return [holder(b"p/C0", OBJECT, (), uses), holder(LONG_NAME, OBJECT)]
+    return [holder(b"p/C0", OBJECT, (), uses), target(LONG_NAME), holder(ARGUMENT, OBJECT)]
+
+
+def target(name):
+    """A class with two static fields, which can be made."""
+    pool = Pool()
+    fields = []
+    for called, desc in ((b"f", b"I"), (b"g", LONG_DESC)):
+        fields.append(struct.pack(">HHHH", PUBLIC | STATIC, pool.text(called), pool.text(desc), 0))
+    methods = [main_method(pool), method(pool, b"all", MANY_LONG, b"\xb1", 2, 255)]
+    this, over = pool.named(7, name), pool.named(7, OBJECT)
+    return joined(pool, PUBLIC | SUPER, this, over, [], fields, methods)
+
+
+def repeated(use):
+    """A use again and again, to the end of the longest code."""
+    return use * (65000 // len(use)) + b"\xb1"
 
 
 def casts(pool):
-    cast = struct.pack(">BBH", 1, 192, pool.named(7, LONG_NAME)) + b"\x57"
-    return cast * 13000 + b"\xb1"
+    return repeated(struct.pack(">BBHB", 1, 192, pool.named(7, LONG_NAME), 87))
+
+
+def array_casts(pool):
+    return repeated(struct.pack(">BBHB", 1, 192, pool.named(7, b"[" + LONG_DESC), 87))
 
 
 def calls(pool):
-    call = b"\x01" + struct.pack(">BH", 184, pool.member(10, LONG_NAME, b"main", MAIN))
-    return call * 13000 + b"\xb1"
+    return repeated(struct.pack(">BBH", 1, 184, pool.member(10, LONG_NAME, b"main", MAIN)))
+
+
+def reads(pool):
+    return repeated(struct.pack(">BHB", 178, pool.member(9, LONG_NAME, b"f", b"I"), 87))
+
+
+def long_reads(pool):
+    return repeated(struct.pack(">BHB", 178, pool.member(9, LONG_NAME, b"g", LONG_DESC), 87))
+
+
+def news(pool):
+    return repeated(struct.pack(">BHB", 187, pool.named(7, LONG_NAME), 87))
+
+
+def many_called(pool):
+    """Calls with 255 arguments of a long name, which are never reached."""
+    return b"\xb1" + repeated(struct.pack(">BH", 184, pool.member(10, LONG_NAME, b"all", MANY_LONG)))
 
 
 HOSTILE = (
@@ -141,7 +180,12 @@ HOSTILE = (
     ("1,000 classes of 1,000 methods, all overridden", lambda: overridden(1000, 1000)),
     ("100 classes of a long package, 100 methods", lambda: overridden(100, 100, ABSTRACT, b"P" * 30000 + b"/")),
     ("13,000 casts to a class of a long name", lambda: long_named(casts)),
-    ("13,000 calls in a class of a long name", lambda: long_named(calls)),
+    ("13,000 casts to arrays of such a class", lambda: long_named(array_casts)),
+    ("16,000 calls in such a class", lambda: long_named(calls)),
+    ("16,000 reads of a field in such a class", lambda: long_named(reads)),
+    ("16,000 reads of a field of its type", lambda: long_named(long_reads)),
+    ("16,000 objects of such a class", lambda: long_named(news)),
+    ("21,000 calls with 255 arguments of a long name", lambda: long_named(many_called)),
 )
 
 KINDS = (("a flat set", flat), ("a chain", chain), ("a diamond of interfaces", diamond))

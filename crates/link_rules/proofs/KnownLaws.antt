@@ -18,6 +18,7 @@ use Rattle.link_rules.specs.Descriptors.{is_left_out_class, left_out_class}
 use Rattle.link_rules.specs.Marks.{IsTold, AreTested}
 use Rattle.link_rules.specs.Walks.Missing.{missing_text, missing_desc, missing_method_desc, knows_desc, knows_method, knows_field_text, knows_method_text, knows_class_text}
 use Rattle.link_rules.specs.Walks.Spelled.{IsField, IsMethod}
+use Rattle.link_rules.proofs.MarkLaws.{told_tested}
 
 -- both tests hold
 both : (a b : Bool) → (a && b) ≡ true → (a ≡ true) × (b ≡ true)
@@ -48,7 +49,7 @@ method_known names f m h =
 
 -- a text that passes a test
 text_passes : (test : List ℕ → Bool) (pool : List PoolItem) (told : List Bool) (text : List ℕ) → AreTested test pool told → IsTold told pool text true → test text ≡ true
-text_passes test pool told text tested is_told = subst (λ t. test t ≡ true) (sym (is_told.1.1)) (sym (tested (is_told.0) true (is_told.1.0)))
+text_passes test pool told text tested is_told = sym (told_tested test pool told text true tested is_told)
 
 -- the text of an array class
 array_known : (names : List (List ℕ)) (f : ClassFile) (d : Option Desc) → from true (knows_desc names) d ≡ true → flat_map (missing names f) (from [] desc_names d) ≡ []
@@ -91,5 +92,5 @@ method_told names f pool told item m tested is_method is_told =
 -- an array class that isn't left out
 pub class_let_in : (f : ClassFile) (pool : List PoolItem) (told : List Bool) (text : List ℕ) → AreTested is_left_out_class pool told → IsTold told pool text false → left_out_class f text ≡ []
 class_let_in f pool told text tested is_told =
-    let h : is_left_out_class text ≡ false = subst (λ t. is_left_out_class t ≡ false) (sym (is_told.1.1)) (sym (tested (is_told.0) false (is_told.1.0))) in
+    let h : is_left_out_class text ≡ false = sym (told_tested is_left_out_class pool told text false tested is_told) in
     rw h refl

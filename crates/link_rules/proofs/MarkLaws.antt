@@ -17,9 +17,13 @@ pub tested_more : (test : List ℕ → Bool) (pool : List PoolItem) (told more :
 tested_more test pool told more x index n tested same grown = (
   ap length grown ∙ length_push told x ∙ ap (λ k. k + 1) n,
   λ t b h.
-  last_or_before told x b t (subst (λ (z : List Bool). slice_get z t ≡ Some b) grown h) (λ k z. z ≡ test (text_in pool k)) tested (subst (λ k. x ≡ test (text_in pool k)) (sym n) same),
+      last_or_before told x b t (subst (λ (z : List Bool). slice_get z t ≡ Some b) grown h) (λ k z. z ≡ test (text_in pool k)) tested (subst (λ k. x ≡ test (text_in pool k)) (sym n) same),
 )
 
 -- what is told of a text of a pool, the table and the pool under other names
 pub told_there : (text : List PoolItem → List ℕ) (told s : List Bool) (pool p : List PoolItem) (b x : Bool) → s ≡ told → p ≡ pool → b ≡ x → IsTold s p (text p) b → IsTold told pool (text pool) x
 told_there text told s pool p b x es ep eb h = subst (λ (z : List Bool). IsTold z pool (text pool) x) es (subst (λ (z : List PoolItem). IsTold s z (text z) x) ep (subst (λ z. IsTold s p (text p) z) eb h))
+
+-- what is told of a text is what the test says
+pub told_tested : (test : List ℕ → Bool) (pool : List PoolItem) (told : List Bool) (text : List ℕ) (b : Bool) → AreTested test pool told → IsTold told pool text b → b ≡ test text
+told_tested test pool told text b tested is_told = tested (is_told.0) b (is_told.1.0) ∙ ap test (sym (is_told.1.1))

@@ -4,3 +4,4 @@ pub mod Uses
 pub mod Owned
 pub mod Walk
 pub mod Items
+pub mod Told

@@ -27,7 +27,8 @@ use code_table::{Code, Op, Placed};
 use jvm_base::{Desc, Elem, List, NoMemory, TableItem};
 use link_members::is_one_package;
 use link_rules::{
-    LinkErr, LinkWhy, Program, ops, refuse_class_if, refuse_member_if, table, told_class, told_owner,
+    LinkErr, LinkWhy, Program, ops, refuse_class_if, refuse_member_if, table, told_class,
+    told_owner,
 };
 use std::alloc::Global;
 

@@ -2,18 +2,24 @@
 
 ghost use Rattle.std.specs.Prelude.{◌≡◌, ◌==◌};
 ghost use Rattle.class_names.specs.Seen.{seen_member};
+ghost use Rattle.class_names.specs.Texts.{class_text, member_in};
 ghost use Rattle.link_rules.specs.Answers.{IsAnswer};
+ghost use Rattle.link_rules.specs.Classes.{names_interface};
+ghost use Rattle.link_rules.specs.Marks.{AreTested};
 ghost use Rattle.link_uses.specs.Items.{AreItems};
 ghost use Rattle.link_uses.specs.Lookups.{found_field, found_method};
-ghost use Rattle.link_uses.specs.Uses.{is_wrong_field_use, wrong_holder, wrong_name, wrong_method_flags, finds_wrong_method, is_wrong_call, is_wrong_new, wrong_field_use, wrong_call, wrong_new, wrong_use};
+ghost use Rattle.link_uses.specs.Told.{AreTold};
+ghost use Rattle.link_uses.specs.Uses.{is_wrong_field_use, wrong_name, wrong_method_flags, finds_wrong_method, is_wrong_call, is_wrong_new, wrong_field_use, wrong_call, wrong_new, wrong_use};
 
 use crate::flags::{field_flags, method_flags};
 use crate::items::{field_at, method_at};
 use crate::lookup::{Found, Resolver};
-use class_format::{ABSTRACT, ClassFile, INTERFACE, STATIC, has_flag};
-use class_names::{Called, class_text, is_array, is_clinit, is_init, member};
+use crate::told::{Told, is_of_interface, is_wrong_new_at};
+use class_format::{ABSTRACT, ClassFile, STATIC, has_flag};
+use class_names::{Called, class_text, is_clinit, is_init, member};
 use code_table::Op;
 use code_table::opcode::{INVOKEINTERFACE, INVOKESPECIAL, INVOKESTATIC};
+use jvm_base::PoolItem;
 use link_rules::{LinkErr, LinkWhy, Program, refuse_class_if, refuse_member_if};
 use std::alloc::Global;
 
@@ -30,13 +36,6 @@ fn is_wrong_field_use(
         Some(found) => has_flag(field_flags(resolver.program(), &found), STATIC) != is_static,
         None => false,
     }
-}
-
-#[tactic(auto, unfolding(crate::specs::Uses::wrong_holder))]
-fn is_wrong_holder(program: &Program, op: u8, m: &Called) -> bool
-    ensures { result ≡ wrong_holder program.now op (seen_member m.now) }
-{
-    program.names_interface(m.class) != (op == INVOKEINTERFACE)
 }
 
 #[tactic(auto, unfolding(crate::specs::Uses::wrong_name))]
@@ -64,22 +63,22 @@ fn finds_wrong_method(resolver: &Resolver, op: u8, m: &Called, found: Option<Fou
     }
 }
 
-fn is_wrong_call(resolver: &Resolver, op: u8, m: &Called, found: Option<Found>) -> bool
-    requires { found ≡ found_method resolver.now (seen_member m.now) }
+/// Whether a call is of another kind than what it names, of which this is told.
+#[tactic(auto, unfolding(crate::specs::Uses::wrong_holder))]
+fn is_wrong_call(
+    resolver: &Resolver,
+    is_interface: bool,
+    op: u8,
+    m: &Called,
+    found: Option<Found>,
+) -> bool
+    requires holder { is_interface ≡ names_interface resolver.now (seen_member m.now).class }
+    requires found { found ≡ found_method resolver.now (seen_member m.now) }
     ensures { result ≡ is_wrong_call resolver.now op (seen_member m.now) }
 {
-    is_wrong_holder(resolver.program(), op, m)
+    is_interface != (op == INVOKEINTERFACE)
         || is_wrong_name(op, m.name)
         || finds_wrong_method(resolver, op, m, found)
-}
-
-#[tactic(auto, unfolding(crate::specs::Uses::is_wrong_new))]
-fn is_wrong_new(program: &Program, text: &[u16]) -> bool
-    ensures { result ≡ is_wrong_new program.now text.now }
-{
-    is_array(text)
-        || has_flag(program.flags_of(text), INTERFACE)
-        || has_flag(program.flags_of(text), ABSTRACT)
 }
 
 #[tactic(auto, unfolding(crate::specs::Uses::wrong_field_use))]
@@ -103,14 +102,16 @@ fn check_call(
     alloc: Global,
     resolver: &Resolver,
     file: &ClassFile,
+    is_interface: bool,
     op: u8,
     m: &Called,
     found: Option<Found>,
 ) -> Result<(), LinkErr>
-    requires { found ≡ found_method resolver.now (seen_member m.now) }
+    requires holder { is_interface ≡ names_interface resolver.now (seen_member m.now).class }
+    requires found { found ≡ found_method resolver.now (seen_member m.now) }
     ensures { IsAnswer (wrong_call resolver.now file.now op (seen_member m.now)) result }
 {
-    let is_wrong = is_wrong_call(resolver, op, m, found);
+    let is_wrong = is_wrong_call(resolver, is_interface, op, m, found);
     refuse_member_if(alloc, is_wrong, LinkWhy::WrongKind, file, m.name, m.desc)
 }
 
@@ -119,12 +120,21 @@ fn check_new(
     alloc: Global,
     resolver: &Resolver,
     file: &ClassFile,
-    text: &[u16],
+    wrong_news: &[bool],
+    item: u16,
 ) -> Result<(), LinkErr>
-    ensures { IsAnswer (wrong_new resolver.now file.now text.now) result }
+    requires { AreTested (is_wrong_new resolver.now) file.now.pool wrong_news.now }
+    ensures { IsAnswer (wrong_new resolver.now file.now (class_text file.now.pool item)) result }
 {
-    let is_wrong = is_wrong_new(resolver.program(), text);
-    refuse_class_if(alloc, is_wrong, LinkWhy::WrongKind, file, text)
+    let pool = file.pool.as_slice();
+    let is_wrong = is_wrong_new_at(resolver.program(), pool, wrong_news, item);
+    refuse_class_if(
+        alloc,
+        is_wrong,
+        LinkWhy::WrongKind,
+        file,
+        class_text(pool, item),
+    )
 }
 
 /// What an instruction uses is of the kind that it asks.
@@ -133,9 +143,11 @@ pub(crate) fn check_op(
     resolver: &Resolver,
     file: &ClassFile,
     items: &[Option<Found>],
+    told: &Told,
     op: &Op,
 ) -> Result<(), LinkErr>
     requires items { AreItems resolver.now file.now.pool items.now }
+    requires told { AreTold resolver.now file.now.pool told.now }
     ensures { IsAnswer (wrong_use resolver.now file.now op.now) result }
 {
     let pool = file.pool.as_slice();
@@ -150,9 +162,12 @@ pub(crate) fn check_op(
         }
         Op::Invoke { op, item, .. } => {
             let found = method_at(resolver, pool, items, *item);
-            check_call(alloc, resolver, file, *op, &member(pool, *item), found)
+            let interfaces = told.interfaces.as_slice();
+            let is_interface = is_of_interface(resolver.program(), pool, interfaces, *item);
+            let m = member(pool, *item);
+            check_call(alloc, resolver, file, is_interface, *op, &m, found)
         }
-        Op::New(item) => check_new(alloc, resolver, file, class_text(pool, *item)),
+        Op::New(item) => check_new(alloc, resolver, file, told.wrong_news.as_slice(), *item),
         _ => Ok(()),
     }
 }

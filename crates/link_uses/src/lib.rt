@@ -8,6 +8,7 @@ mod kinds;
 mod lookup;
 mod missing;
 mod owned;
+mod told;
 mod walk;
 
 pub use access::check_access;

@@ -1,20 +1,22 @@
 //! One walk over the code of files, for the rules that look at instructions alone.
 
-ghost use Rattle.std.specs.Prelude.{◌≡◌, map};
+ghost use Rattle.std.specs.Prelude.{◌≡◌, map, IfOk};
 ghost use Rattle.std.specs.List.{flat_map};
 ghost use Rattle.class_names.specs.Classes.{code_of, codes_of};
 ghost use Rattle.link_rules.specs.Answers.{IsAnswer};
 ghost use Rattle.link_uses.specs.Items.{AreItems};
+ghost use Rattle.link_uses.specs.Told.{AreTold};
 ghost use Rattle.link_uses.specs.Uses.{no_members, wrong_uses};
 ghost use Rattle.link_uses.specs.Walk.{broken, broken_placed, broken_in, broken_file};
 
 use crate::items::file_items;
 use crate::lookup::{Found, Resolver};
+use crate::told::Told;
 use crate::{kinds, missing};
 use class_format::{ClassFile, MethodItem};
 use code_table::{Code, Op, Placed};
-use jvm_base::List;
-use link_rules::{LinkErr, ops};
+use jvm_base::{List, NoMemory, PoolItem};
+use link_rules::{LinkErr, Program, ops};
 use std::alloc::Global;
 
 /// A rule on instructions: that members are found, or that what is used is of the right kind.
@@ -30,14 +32,16 @@ fn check_op(
     rule: Rule,
     file: &ClassFile,
     items: &[Option<Found>],
+    told: &Told,
     op: &Op,
 ) -> Result<(), LinkErr>
     requires items { AreItems resolver.now file.now.pool items.now }
+    requires told { AreTold resolver.now file.now.pool told.now }
     ensures { IsAnswer (broken rule resolver.now file.now op.now) result }
 {
     match rule {
         Rule::Members => missing::check_op(alloc, resolver, file, items, op),
-        Rule::Kinds => kinds::check_op(alloc, resolver, file, items, op),
+        Rule::Kinds => kinds::check_op(alloc, resolver, file, items, told, op),
     }
 }
 
@@ -48,13 +52,15 @@ fn check_ops(
     rule: Rule,
     file: &ClassFile,
     items: &[Option<Found>],
+    told: &Told,
     ops: &[Placed],
 ) -> Result<(), LinkErr>
     requires items { AreItems resolver.now file.now.pool items.now }
+    requires told { AreTold resolver.now file.now.pool told.now }
     ensures { IsAnswer (flat_map (broken_placed rule resolver.now file.now) ops.now) result }
 {
     for placed in ops {
-        check_op(alloc, resolver, rule, file, items, &placed.op)?;
+        check_op(alloc, resolver, rule, file, items, told, &placed.op)?;
     }
     Ok(())
 }
@@ -66,15 +72,32 @@ fn check_method(
     rule: Rule,
     file: &ClassFile,
     items: &[Option<Found>],
+    told: &Told,
     method: &MethodItem,
     code: &Option<Code>,
 ) -> Result<(), LinkErr>
     requires code { code.now ≡ code_of file.now.pool method.now }
     requires items { AreItems resolver.now file.now.pool items.now }
+    requires told { AreTold resolver.now file.now.pool told.now }
     ensures { IsAnswer (broken_in rule resolver.now file.now method.now) result }
 {
     let _flags = method.flags;
-    check_ops(alloc, resolver, rule, file, items, ops(code))
+    check_ops(alloc, resolver, rule, file, items, told, ops(code))
+}
+
+/// What is told of the texts of a pool, as far as the rule asks it.
+fn told_for(
+    alloc: Global,
+    rule: Rule,
+    program: &Program,
+    pool: &[PoolItem],
+) -> Result<Told, NoMemory>
+    ensures { IfOk result (λ told. AreTold program.now pool.now told) }
+{
+    match rule {
+        Rule::Members => Ok(Told::nothing(alloc, program, pool)),
+        Rule::Kinds => Told::new(alloc, program, pool),
+    }
 }
 
 #[tactic(auto, using(link_rules::proofs::Firsts::places_break), unfolding(crate::specs::Walk::broken_file))]
@@ -89,10 +112,20 @@ fn check_file(
     ensures { IsAnswer (broken_file rule resolver.now file.now) result }
 {
     let items = file_items(alloc, resolver, file)?;
+    let told = told_for(alloc, rule, resolver.program(), file.pool.as_slice())?;
     let methods = file.methods.as_slice();
     for i in 0..methods.len() {
-        let found = items.as_slice();
-        check_method(alloc, resolver, rule, file, found, &methods[i], &codes[i])?;
+        let (method, code) = (&methods[i], &codes[i]);
+        check_method(
+            alloc,
+            resolver,
+            rule,
+            file,
+            items.as_slice(),
+            &told,
+            method,
+            code,
+        )?;
     }
     Ok(())
 }
