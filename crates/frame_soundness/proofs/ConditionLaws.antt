@@ -1,12 +1,10 @@
 -- A frame that fits the typing at its address meets the condition of its instruction.
-use Rattle.std.proofs.Common.{◌≡◌, ◌∙◌, sym, ap, subst, refl, ℕ, zero, suc, ◌+◌, ◌-◌, ◌<◌, ◌≤◌, Bool, true, false, List, [], ◌∷◌, ◌++◌, map, take, drop, length, Option, Some, None, arith}
+use Rattle.std.proofs.Common.{◌≡◌, ◌∙◌, ap, subst, refl, ℕ, suc, ◌+◌, ◌-◌, ◌<◌, ◌≤◌, Bool, true, false, List, [], ◌∷◌, ◌++◌, drop, length, Option, Some, None, arith}
 use Rattle.std.specs.Prelude.{◌&&◌, ◌==◌, if◌then◌else◌, replicate}
 use Rattle.std.specs.Option.{option_to_list}
-use Rattle.std.proofs.lemmas.List.{length-append, length-drop, length-map, length-replicate}
-use Rattle.jvm_base.specs.Words.{from}
+use Rattle.std.proofs.lemmas.List.{length-append, length-drop, length-replicate}
 use Rattle.jvm_base.specs.declared.desc.Desc.{Desc}
 use Rattle.jvm_base.specs.declared.desc.MethodDesc.{MethodDesc}
-use Rattle.jvm_base.specs.declared.frame.Frame.{Frame}
 use Rattle.jvm_base.specs.declared.name.Name.{Name}
 use Rattle.jvm_base.specs.declared.value.Value.{Value}
 use Rattle.jvm_base.specs.declared.value.Value.TheVariants.{Int, Long, Ref, Null}
@@ -39,10 +37,9 @@ use Rattle.instruction_table.proofs.FitLists.{append_empty}
 use Rattle.frame_ops.specs.Condition.{IsDefined, values_after}
 use Rattle.frame_ops.specs.Moves.{Move, Goes, Jumps, Sets, Raises, Throws, Asks, Calls, Leaves, Stuck}
 use Rattle.frame_ops.specs.Stepping.{operand_count, call_count}
-use Rattle.frame_soundness.specs.AcceptedProgram.{Types, Accepted, Instruction, IsLinked, IsSwitch, next_at}
+use Rattle.frame_soundness.specs.AcceptedProgram.{Instruction, IsLinked, IsSwitch, next_at}
 use Rattle.frame_soundness.specs.Conditions.{MayTake, ConditionLaw}
 use Rattle.frame_soundness.specs.Fitting.{Fits}
-use Rattle.frame_soundness.specs.Frames.{FrameFits}
 use Rattle.frame_soundness.specs.Moving.{Moves, IsTold}
 use Rattle.frame_soundness.specs.Values.{is_there, all_held}
 use Rattle.frame_soundness.proofs.GrowLaws.{held-grows}

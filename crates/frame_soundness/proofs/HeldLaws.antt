@@ -1,6 +1,6 @@
 -- Values of types: what fits stays, and what a type shows of its values.
-use Rattle.std.proofs.Common.{◌≡◌, ◌∙◌, sym, ap, subst, refl, ℕ, ◌-◌, ◌<◌, Bool, true, false, List, [], ◌∷◌, ◌++◌, Option, Some, None, ◌⊎◌, inl, inr, arith}
-use Rattle.std.specs.Prelude.{◌&&◌, ◌==◌, nat_lt, if◌then◌else◌}
+use Rattle.std.proofs.Common.{◌≡◌, ◌∙◌, sym, subst, refl, ℕ, ◌-◌, ◌<◌, Bool, true, false, List, [], ◌∷◌, Option, Some, None, ◌⊎◌, inl, inr, arith}
+use Rattle.std.specs.Prelude.{◌&&◌, ◌==◌, nat_lt}
 use Rattle.std.proofs.lemmas.Bool.{cases_Bool, eqb-true}
 use Rattle.std.proofs.lemmas.Bool.Decides.{nat_tests}
 use Rattle.jvm_base.specs.Words.{from}
@@ -20,7 +20,7 @@ use Rattle.flow_types.specs.declared.flow_type.FlowType.TheVariants as flow
 use Rattle.flow_types.proofs.ListLaws.{and_parts, and_both}
 use Rattle.flow_types.proofs.TypeLaws.{top, only-same, type-refl, type-trans, ArrayFits, array-view, array-back, primitive-is}
 use Rattle.instruction_table.specs.ClassTypes.{plain, element_type, class_type, array_at, value_type, owner_of, new_class}
-use Rattle.instruction_table.specs.Needs.{is_int, is_long, is_reference, is_uninitialised, holds, is_array_of, has_part, is_reference_array, is_array, need_rules, needs_rules}
+use Rattle.instruction_table.specs.Needs.{is_int, is_long, holds, is_array_of, has_part, is_reference_array, is_array, need_rules, needs_rules}
 use Rattle.instruction_table.specs.Working.{part_of}
 use Rattle.instruction_table.specs.declared.row.Need.{Need}
 use Rattle.instruction_table.specs.declared.row.Need.TheVariants as need

@@ -1,6 +1,6 @@
 -- Instructions by themselves: the frame fits after, and no operand is missing.
-use Rattle.std.proofs.Common.{◌≡◌, ◌∙◌, sym, ap, subst, refl, ℕ, zero, suc, ◌+◌, ◌-◌, Bool, true, false, List, [], ◌∷◌, ◌++◌, map, take, drop, length, Option, Some, None, ◌⊎◌, inl, inr, arith}
-use Rattle.std.specs.Prelude.{◌&&◌, ◌||◌, ◌==◌, ◌%◌, not, if◌then◌else◌, reverse, replicate, slice_get, slice_set, find, ℤ, pos}
+use Rattle.std.proofs.Common.{◌≡◌, ◌∙◌, sym, ap, subst, refl, ℕ, zero, suc, ◌-◌, Bool, true, false, List, [], ◌∷◌, ◌++◌, map, take, drop, length, Option, Some, None, arith}
+use Rattle.std.specs.Prelude.{◌&&◌, ◌||◌, ◌==◌, if◌then◌else◌, slice_get, find, ℤ, pos}
 use Rattle.std.specs.Int.{Width, w32, w64, int_wrapping_add, int_wrapping_neg}
 use Rattle.std.specs.List.{list_any}
 use Rattle.std.specs.Ordering.{int_eq}
@@ -18,7 +18,6 @@ use Rattle.code_table.specs.declared.op.Op.TheVariants as op
 use Rattle.code_table.specs.declared.opcode.TheConstants as code
 use Rattle.hierarchy.specs.Walks.{has}
 use Rattle.program_image.specs.declared.info.Target.{Target}
-use Rattle.program_image.specs.declared.info.Target.TheVariants.{Constant}
 use Rattle.program_image.specs.Program.{Program, target_of}
 use Rattle.program_image.specs.Subclass.{is_sub_of}
 use Rattle.flow_types.specs.Tree.{superclasses, superclass}
@@ -34,8 +33,8 @@ use Rattle.flow_types.proofs.TreeLaws.{below-from}
 use Rattle.flow_types.proofs.TypeLaws.{type-refl, type-trans}
 use Rattle.instruction_table.specs.ClassTypes.{class_type, value_type, constant_type, desc_type, owner_of, new_class, class_in, field_class_in, method_in, is_initialiser}
 use Rattle.instruction_table.specs.Needs.{is_int, need_rules, needs_rules}
-use Rattle.instruction_table.specs.Rows.{row, jumps, falls, is_on_ints, number, number_type, value, reference, object_of, load_slot, store_slot, array_loads, array_load, array_stores, array_store, pop_row, dups, dup_row, resize_row, static_row, field_row, arguments, result, receiver_class, invoke_row, cast_row}
-use Rattle.instruction_table.specs.Working.{site_of, taken_rules, first_or, group_count, doubled, swapped, given, read_rules, is_own_or_super, init_rules, inits_rules, row_rules, next}
+use Rattle.instruction_table.specs.Rows.{row, jumps, falls, is_on_ints, number, number_type, value, reference, object_of, load_slot, store_slot, array_loads, array_load, array_stores, array_store, pop_row, dups, dup_row, resize_row, field_row, arguments, result, receiver_class, invoke_row, cast_row}
+use Rattle.instruction_table.specs.Working.{site_of, taken_rules, given, read_rules, is_own_or_super, init_rules, inits_rules, row_rules, next}
 use Rattle.instruction_table.specs.declared.row.Need.{Need}
 use Rattle.instruction_table.specs.declared.row.Need.TheVariants as need
 use Rattle.instruction_table.specs.declared.row.Gives.{Gives}
@@ -50,10 +49,10 @@ use Rattle.instruction_table.proofs.FitLists.{append_empty, if_empty}
 use Rattle.frame_ops.specs.declared.answer.Fault.TheVariants as fault
 use Rattle.frame_ops.specs.declared.answer.Given.{Given}
 use Rattle.frame_ops.specs.declared.answer.Given.TheVariants as given_as
-use Rattle.frame_ops.specs.Moves.{Move, Goes, Jumps, Sets, Raises, Throws, Asks, Calls, Leaves, Stuck, locals_set}
+use Rattle.frame_ops.specs.Moves.{Move, Goes, Jumps, Sets, Raises, Throws, Asks, Calls, Leaves, Stuck}
 use Rattle.frame_ops.specs.Narrowing.{as_byte, as_unit, as_short, as_int}
 use Rattle.frame_ops.specs.Numbers.{arithmetic, division, bitwise, shifted as shifted_by, shift_count, ordered, compares}
-use Rattle.frame_ops.specs.Operands.{one, two, one_int, two_ints, two_longs, long_and_int, two_numbers, is_zero, divides, negates, shifts, resizes, branches, passes_refs, passes_null, table_target, pair_target, is_of_key, local_at, stores, bumps, shuffled, with_reference, unless_null, field_move, call_move, throws, with_sizes, is_negative_size, cast, casts, given_constant, given_fit}
+use Rattle.frame_ops.specs.Operands.{one, two, one_int, two_ints, two_longs, long_and_int, two_numbers, is_zero, divides, negates, shifts, resizes, branches, passes_refs, passes_null, table_target, pair_target, is_of_key, local_at, stores, bumps, shuffled, with_reference, unless_null, field_move, call_move, throws, with_sizes, is_negative_size, casts, given_constant, given_fit}
 use Rattle.frame_ops.specs.Table.{move_of}
 use Rattle.machine_state.specs.Classes.{constant_in}
 use Rattle.machine_state.specs.Instructions.{given_to, given_fits}

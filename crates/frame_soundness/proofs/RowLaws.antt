@@ -1,6 +1,6 @@
 -- What each shape of row does to values of types: once for a shape, for all instructions.
 use Rattle.std.proofs.Common.{◌≡◌, ◌∙◌, sym, ap, subst, refl, ℕ, zero, suc, ◌+◌, Bool, true, false, List, [], ◌∷◌, ◌++◌, take, drop, length, Option, Some, None}
-use Rattle.std.specs.Prelude.{◌&&◌, ◌==◌, if◌then◌else◌, slice_get, slice_set, ℤ, pos}
+use Rattle.std.specs.Prelude.{◌&&◌, if◌then◌else◌, slice_get, slice_set, ℤ, pos}
 use Rattle.std.proofs.lemmas.Bool.{eqb-true}
 use Rattle.jvm_base.specs.declared.name.Name.{Name}
 use Rattle.jvm_base.specs.declared.value.Value.{Value}
@@ -8,27 +8,26 @@ use Rattle.jvm_base.specs.declared.value.Value.TheVariants.{Int, Long, Ref, Null
 use Rattle.program_image.specs.Program.{Program}
 use Rattle.flow_types.specs.Tree.{superclasses}
 use Rattle.flow_types.specs.Types.{type_fits}
-use Rattle.flow_types.specs.TypeLists.{is_operand, AreOperands}
+use Rattle.flow_types.specs.TypeLists.{is_operand}
 use Rattle.flow_types.specs.declared.flow_type.FlowType.{FlowType}
 use Rattle.flow_types.specs.declared.flow_type.FlowType.TheVariants as flow
 use Rattle.flow_types.proofs.ListLaws.{and_parts, and_both}
-use Rattle.instruction_table.specs.ClassTypes.{value_type, class_type, owner_of, new_class}
+use Rattle.instruction_table.specs.ClassTypes.{value_type, new_class}
 use Rattle.instruction_table.specs.Needs.{is_int, is_long, is_reference}
-use Rattle.instruction_table.specs.Working.{site_of, fills, read_rules, read_type, read_reference, taken_rules, written, first_or, wide_count, group_count, doubled, swapped, under as under_types, doubled_types, both_rules, given, is_same_new, new_type, begun_one, begun, inits_rules, row_rules, next}
+use Rattle.instruction_table.specs.Working.{site_of, fills, read_rules, read_type, taken_rules, written, first_or, wide_count, group_count, doubled, swapped, under as under_types, doubled_types, given, is_same_new, new_type, begun_one, begun, inits_rules, row_rules, next}
 use Rattle.instruction_table.specs.declared.row.Need.{Need}
 use Rattle.instruction_table.specs.declared.row.Gives.{Gives}
-use Rattle.instruction_table.specs.declared.row.Gives.TheVariants as gives
 use Rattle.instruction_table.specs.declared.row.Slot.{Slot}
 use Rattle.instruction_table.specs.declared.row.Slot.TheVariants as slot
 use Rattle.instruction_table.specs.declared.row.Group.{Group}
 use Rattle.instruction_table.specs.declared.row.Group.TheVariants as group
 use Rattle.instruction_table.specs.declared.row.Row.TheVariants as row
 use Rattle.instruction_table.specs.declared.work.Work.{Work}
-use Rattle.instruction_table.proofs.FitLists.{append_empty, if_empty, operands-drop, operands-take, operands-append, operands-map}
+use Rattle.instruction_table.proofs.FitLists.{append_empty, if_empty, operands-drop, operands-take, operands-append}
 use Rattle.instruction_table.proofs.RowLaws.{doubled-whole, found, IsNew, init-new}
 use Rattle.instruction_table.proofs.RowLaws.Found.{single, double}
 use Rattle.frame_ops.specs.Moves.{locals_set}
-use Rattle.frame_ops.specs.Operands.{is_wide, local_at, local_slots, under, shuffled}
+use Rattle.frame_ops.specs.Operands.{is_wide, local_at, local_slots, under}
 use Rattle.frame_soundness.specs.Values.{is_there, erased, typed, held, all_held}
 use Rattle.frame_soundness.specs.Fitting.{Both, Fits}
 use Rattle.frame_soundness.proofs.HeldLaws.{ClassShape, a_class, an_array, class-shape}

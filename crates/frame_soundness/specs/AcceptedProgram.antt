@@ -1,6 +1,5 @@
 -- What a typing of a program's methods and its linking owe to a machine that runs it.
 use Rattle.std.specs.Prelude.{◌≡◌, ◌<◌, ◌≤◌, ℕ, ℤ, zero, suc, ◌+◌, ◌==◌, Bool, true, false, List, [], ◌∷◌, ◌++◌, map, length, Option, Some, None, slice_get}
-use Rattle.jvm_base.specs.Names.{named}
 use Rattle.jvm_base.specs.declared.desc.MethodDesc.{MethodDesc}
 use Rattle.jvm_base.specs.declared.name.Name.{Name}
 use Rattle.jvm_base.specs.declared.value.Value.{Value}
@@ -41,10 +40,10 @@ use Rattle.frame_ops.specs.Operands.{table_target}
 use Rattle.frame_ops.specs.Stepping.{HasFewArguments}
 use Rattle.machine_state.specs.BootClasses.{class_class, string, system, print_stream, thread, arithmetic, null_pointer, array_index, string_index, negative_size, array_store, class_cast, monitor_state, thread_state, initializer_error, no_class_found, class_change, abstract_method, illegal_access, stack_overflow}
 use Rattle.machine_state.specs.Classes.{array_class_of, array_class_over, body_of, clinit_of, thread_run}
-use Rattle.machine_state.specs.PreMade.{no_node, arguments, text_name}
+use Rattle.machine_state.specs.PreMade.{arguments, text_name}
 use Rattle.frame_soundness.specs.Values.{all_held}
 use Rattle.frame_soundness.specs.Holding.{field_types, static_types, component_type, has_fields, desc_of}
-use Rattle.frame_soundness.specs.Natives.{NativeFits, string_type, buffer_type, thread_type}
+use Rattle.frame_soundness.specs.Natives.{NativeFits, string_type, buffer_type}
 
 -- ---- the typing
 

@@ -1,5 +1,5 @@
 -- When a frame of the machine fits the typing at its address.
-use Rattle.std.specs.Prelude.{◌≡◌, Bool, true, Option, Some, is_some}
+use Rattle.std.specs.Prelude.{◌≡◌, Bool, true, Some, is_some}
 use Rattle.jvm_base.specs.Words.{from}
 use Rattle.jvm_base.specs.declared.frame.Frame.{Frame}
 use Rattle.jvm_base.specs.declared.name.Name.{Name}
