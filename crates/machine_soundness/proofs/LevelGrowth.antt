@@ -1,20 +1,20 @@
 -- Levels that fit still fit when objects are made, and none goes.
-use Rattle.flow_types.proofs.ListLaws.{and_both, and_parts}
-use Rattle.flow_types.specs.declared.flow_type.FlowType.{FlowType}
-use Rattle.frame_soundness.proofs.GrowLaws.{Grows, frame-grows, value-grows}
-use Rattle.frame_soundness.specs.AcceptedProgram.{Types}
+use Rattle.std.proofs.Common.{Bool, List, None, Option, Some, [], refl, true, ◌∷◌, ◌≡◌}
+use Rattle.std.specs.Option.{option_to_list}
 use Rattle.jvm_base.specs.declared.frame.Frame.{Frame}
 use Rattle.jvm_base.specs.declared.frame.Level.{Level}
 use Rattle.jvm_base.specs.declared.frame.Level.TheVariants.{Code, Init}
 use Rattle.jvm_base.specs.declared.frame.Phase.{Phase}
+use Rattle.jvm_base.specs.declared.frame.Phase.TheVariants as phase
 use Rattle.jvm_base.specs.declared.name.Name.{Name}
 use Rattle.jvm_base.specs.declared.value.Value.{Value}
+use Rattle.program_image.specs.Program.{Program}
+use Rattle.flow_types.proofs.ListLaws.{and_both, and_parts}
+use Rattle.flow_types.specs.declared.flow_type.FlowType.{FlowType}
+use Rattle.frame_soundness.proofs.GrowLaws.{Grows, frame-grows, value-grows}
+use Rattle.frame_soundness.specs.AcceptedProgram.{Types}
 use Rattle.machine_soundness.specs.Bodies.{all_suit}
 use Rattle.machine_soundness.specs.Levels.{LevelsFit, Lower, PhaseFits}
-use Rattle.program_image.specs.Program.{Program}
-use Rattle.std.proofs.Common.{Bool, List, None, Option, Some, [], refl, true, ◌∷◌, ◌≡◌}
-use Rattle.std.specs.Option.{option_to_list}
-use Rattle.jvm_base.specs.declared.frame.Phase.TheVariants as phase
 
 module _ (image : Program) (there more : Name → Bool) (g : Grows there more) where
   -- so do values in places

@@ -1,1 +1,2 @@
 pub mod LevelGrowth
+pub mod HeapLaws
