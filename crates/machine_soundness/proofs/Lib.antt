@@ -1,2 +1,3 @@
 pub mod LevelGrowth
 pub mod HeapLaws
+pub mod ServeLaws
