@@ -1,3 +1,5 @@
 pub mod LevelGrowth
 pub mod HeapLaws
 pub mod ServeLaws
+pub mod ArrayLaws
+pub mod BlockLaws
