@@ -3,3 +3,4 @@ pub mod HeapLaws
 pub mod ServeLaws
 pub mod ArrayLaws
 pub mod BlockLaws
+pub mod StateLaws
