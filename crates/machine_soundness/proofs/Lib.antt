@@ -4,3 +4,4 @@ pub mod ServeLaws
 pub mod ArrayLaws
 pub mod BlockLaws
 pub mod StateLaws
+pub mod StartLaws
