@@ -1,5 +1,5 @@
 -- Where a sound machine begins, and what it must wait for.
-use Rattle.std.specs.Prelude.{◌≡◌, ℕ, List, Option, None}
+use Rattle.std.specs.Prelude.{◌≡◌, ℕ, List, None}
 use Rattle.flow_types.specs.declared.flow_type.FlowType.{FlowType}
 use Rattle.program_image.specs.Program.{Program}
 use Rattle.machine_state.specs.declared.state.Choice.{Choice}
