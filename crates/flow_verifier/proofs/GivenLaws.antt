@@ -40,7 +40,7 @@ pick_else b x y e = rw e refl
 
 -- ---- stacks turned about
 
-reverse_operands : (xs : List FlowType) → AreOperands xs → AreOperands (reverse xs)
+pub reverse_operands : (xs : List FlowType) → AreOperands xs → AreOperands (reverse xs)
 reverse_operands [] h = tt
 reverse_operands (x ∷ xs) h = rw (reverse-cons x xs) (operands-append (reverse xs) (x ∷ []) (reverse_operands xs (h.1)) (h.0, tt))
 
@@ -48,7 +48,7 @@ reverse_types : (supers : List (Option ℕ)) (xs : List FlowType) → AreTypes s
 reverse_types supers [] h = tt
 reverse_types supers (x ∷ xs) h = rw (reverse-cons x xs) (types-append supers (reverse xs) (x ∷ []) (reverse_types supers xs (h.1)) (h.0, tt))
 
-reverse_fit : (supers : List (Option ℕ)) (xs ys : List FlowType) → types_fit supers xs ys ≡ true → types_fit supers (reverse xs) (reverse ys) ≡ true
+pub reverse_fit : (supers : List (Option ℕ)) (xs ys : List FlowType) → types_fit supers xs ys ≡ true → types_fit supers (reverse xs) (reverse ys) ≡ true
 reverse_fit supers [] [] h = refl
 reverse_fit supers [] (y ∷ ys) h = absurd cc
 reverse_fit supers (x ∷ xs) [] h = absurd cc
@@ -96,7 +96,7 @@ slots-same supers (x ∷ xs) (y ∷ ys) h o =
     let a : type_slots x ≡ type_slots y = type-slots x ∙ ap slots_by (long-same supers x y p (o.0)) ∙ sym (type-slots y) in
     let b : slots xs ≡ slots ys = slots-same supers xs ys q (o.1) in omega arith
 
-not_deep : (max : ℕ) (ts : List FlowType) → depth_rules max ts ≡ [] → slots ts ≤ max
+pub not_deep : (max : ℕ) (ts : List FlowType) → depth_rules max ts ≡ [] → slots ts ≤ max
 not_deep max ts e =
     elim (cases_Bool (nat_lt max (slots ts))) [
       | inl p ↦ let x : ◌≡◌ {A = List ℕ} (2 ∷ []) [] = rw p at e in absurd cc
@@ -120,7 +120,7 @@ pub given-open : (p : Program) (m : Method) (at : ℕ) (f : FlowFrame) (e : Edge
 unfolding given
 given-open p m at f e c = pick_else f.clash _ _ c
 
-after-whole : (p : Program) (m : Method) (at : ℕ) (f : FlowFrame) → open_rules p m at f ≡ [] → frame_after p m at f ≡ frame_of_work (next_there p m (slice_get (ops_of p m.number) at) (work_of f))
+pub after-whole : (p : Program) (m : Method) (at : ℕ) (f : FlowFrame) → open_rules p m at f ≡ [] → frame_after p m at f ≡ frame_of_work (next_there p m (slice_get (ops_of p m.number) at) (work_of f))
 after-whole p m at f e = pick_then (is_empty (open_rules p m at f)) _ _ (empty_is (open_rules p m at f) e)
 
 after-broken : (p : Program) (m : Method) (at : ℕ) (f : FlowFrame) → is_empty (open_rules p m at f) ≡ false → frame_after p m at f ≡ clash_frame
@@ -135,13 +135,13 @@ not_missing : (max : ℕ) (rules : List ℕ) (ts : List FlowType) → rules ≡ 
 not_missing max rules ts e = rw e refl
 
 -- an instruction that breaks no rule: those of its row, and on depth after
-record Whole (p : Program) (m : Method) (i : ℕ) (o : Placed) (w : Work) : Type 0 where
-  before : depth_rules m.max_stack w.stack ≡ []
-  rules : row_rules (site_of p m.number) (row_at p m o) w ≡ []
-  after : depth_rules m.max_stack (next (site_of p m.number) (row_at p m o) w).stack ≡ []
-  last : last_rules (is_past p m i o) ≡ []
+pub record Whole (p : Program) (m : Method) (i : ℕ) (o : Placed) (w : Work) : Type 0 where
+  pub before : depth_rules m.max_stack w.stack ≡ []
+  pub rules : row_rules (site_of p m.number) (row_at p m o) w ≡ []
+  pub after : depth_rules m.max_stack (next (site_of p m.number) (row_at p m o) w).stack ≡ []
+  pub last : last_rules (is_past p m i o) ≡ []
 
-whole-of : (p : Program) (m : Method) (i : ℕ) (o : Placed) (w : Work) → op_rules p m i o w ≡ [] → Whole p m i o w
+pub whole-of : (p : Program) (m : Method) (i : ℕ) (o : Placed) (w : Work) → op_rules p m i o w ≡ [] → Whole p m i o w
 whole-of p m i o w e =
     let (a, r) = append_empty (depth_rules m.max_stack w.stack) _ e in
     let (b, s) = append_empty (row_rules (site_of p m.number) (row_at p m o) w) _ r in
