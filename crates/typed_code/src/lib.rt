@@ -3,4 +3,4 @@
 
 mod laws;
 
-pub use laws::decoded_is_fine;
+pub use laws::{decoded_is_fine, typings_are_kept};
