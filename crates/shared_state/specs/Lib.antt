@@ -1,0 +1,5 @@
+pub mod Parts
+pub mod Orderly
+pub mod Looks
+pub mod Making
+pub mod Stored
