@@ -9,3 +9,5 @@ pub mod SelectLaws
 pub mod CallPlans
 pub mod IntrinsicPlans
 pub mod BodyPlans
+pub mod ThreadLaws
+pub mod StepLaws

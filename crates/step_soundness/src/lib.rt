@@ -1,2 +1,6 @@
 //! A sound machine of an accepted program stays sound, and none of its threads is stuck.
 #![tactic(auto)]
+
+mod laws;
+
+pub use laws::{never_stuck, sound_step};
