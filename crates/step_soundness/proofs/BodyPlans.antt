@@ -1,5 +1,5 @@
 -- All instructions: the next step of a frame that fits is never stuck, and owes nothing.
-use Rattle.std.proofs.Common.{◌≡◌, ◌∙◌, sym, ap, subst, refl, ℕ, ◌<◌, Bool, true, false, List, [], ◌∷◌, length, Option, Some, None, arith}
+use Rattle.std.proofs.Common.{◌≡◌, sym, subst, refl, ℕ, ◌<◌, Bool, true, false, List, length, Option, arith}
 use Rattle.std.specs.Prelude.{◌==◌, if◌then◌else◌}
 use Rattle.jvm_base.specs.Words.{from}
 use Rattle.jvm_base.specs.declared.desc.Desc.{Desc}
@@ -8,21 +8,18 @@ use Rattle.jvm_base.specs.declared.frame.Frame.{Frame}
 use Rattle.jvm_base.specs.declared.name.Name.{Name}
 use Rattle.jvm_base.specs.declared.value.Value.{Value}
 use Rattle.jvm_base.specs.declared.value.Value.TheVariants.{Int, Long, Ref, Null}
-use Rattle.code_table.specs.declared.code.Placed.{Placed}
 use Rattle.code_table.specs.declared.op.Op.{Op}
 use Rattle.code_table.specs.declared.op.Op.TheVariants as op
 use Rattle.code_table.specs.declared.opcode.TheConstants as code
-use Rattle.program_image.specs.declared.info.ArrayInfo.{ArrayInfo}
 use Rattle.program_image.specs.declared.info.Target.{Target}
 use Rattle.program_image.specs.Program.{Program, target_of}
-use Rattle.program_image.specs.Words.{instruction_at}
 use Rattle.flow_types.specs.Primitives.{primitive_of}
 use Rattle.flow_types.specs.declared.element.Element.TheVariants.{Primitive}
 use Rattle.flow_types.specs.declared.flow_type.FlowType.TheVariants as flow
-use Rattle.instruction_table.specs.ClassTypes.{class_type, array_at, array_over, class_in, method_in}
+use Rattle.instruction_table.specs.ClassTypes.{class_type, array_over, class_in, method_in}
 use Rattle.instruction_table.specs.declared.work.Work.{Work}
 use Rattle.frame_ops.specs.Moves.{Move, Goes, Jumps, Sets, Raises, Throws as ThrowsIt, Asks as AsksIt, Calls as CallsIt, Leaves as LeavesIt, Stuck as StuckThere}
-use Rattle.frame_ops.specs.Operands.{with_reference, with_sizes, field_move, call_move}
+use Rattle.frame_ops.specs.Operands.{with_reference, with_sizes}
 use Rattle.frame_ops.specs.Stepping.{call_count, call_values, move_at}
 use Rattle.frame_ops.specs.Table.{move_of}
 use Rattle.machine_state.specs.Calls.{runs_method, receiver_call}
@@ -31,7 +28,7 @@ use Rattle.machine_state.specs.Instructions.{given_to, instruction_plan, field_n
 use Rattle.machine_state.specs.Next.{Next, Stuck, Who, plain}
 use Rattle.machine_state.specs.Plan.{body_plan}
 use Rattle.machine_state.specs.PreMade.{holder}
-use Rattle.frame_soundness.specs.AcceptedProgram.{Types, Instruction, Accepted, AreArrays, IsLinked, IsLiteral, IsArrayClass, next_at}
+use Rattle.frame_soundness.specs.AcceptedProgram.{Types, Instruction, Accepted, IsLinked, IsLiteral}
 use Rattle.frame_soundness.specs.Frames.{FrameFits}
 use Rattle.frame_soundness.specs.Moving.{MayAsk, MayCall, MayLeave, Moves, IsTold}
 use Rattle.frame_soundness.specs.Values.{is_there}

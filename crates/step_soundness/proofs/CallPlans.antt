@@ -1,6 +1,6 @@
 -- Calls: what is called may be called there, and the new frame fits at address 0; and returns.
-use Rattle.std.proofs.Common.{◌≡◌, ◌∙◌, sym, ap, subst, refl, ℕ, zero, suc, ◌+◌, ◌-◌, ◌<◌, ◌≤◌, Bool, true, false, List, [], ◌∷◌, ◌++◌, map, take, drop, length, Option, Some, None, ◌⊎◌, inl, inr, arith}
-use Rattle.std.specs.Prelude.{◌&&◌, ◌||◌, ◌==◌, not, if◌then◌else◌, nat_lt, slice_get, reverse, is_some, option_and_then, pos}
+use Rattle.std.proofs.Common.{◌≡◌, ◌∙◌, sym, ap, subst, refl, ℕ, zero, suc, ◌<◌, ◌≤◌, Bool, true, false, List, [], ◌∷◌, ◌++◌, map, take, drop, length, Option, Some, None, ◌⊎◌, inl, inr, arith}
+use Rattle.std.specs.Prelude.{◌&&◌, ◌||◌, ◌==◌, not, if◌then◌else◌, nat_lt, slice_get, reverse, is_some, option_and_then}
 use Rattle.std.specs.List.{flat_map}
 use Rattle.std.specs.Option.{option_to_list}
 use Rattle.std.proofs.lemmas.List.{length-reverse, reverse-reverse, length-map, length-append}
@@ -16,7 +16,6 @@ use Rattle.class_format.specs.Flags.{is_synchronized}
 use Rattle.code_table.specs.declared.code.Code.{Code as MethodCode}
 use Rattle.code_table.specs.declared.op.Op.{Op}
 use Rattle.code_table.specs.declared.op.Op.TheVariants as op
-use Rattle.code_table.specs.declared.opcode.TheConstants as code
 use Rattle.program_image.specs.declared.info.Body.{Body}
 use Rattle.program_image.specs.declared.info.Body.TheVariants.{Code, Intrinsic, Abstract}
 use Rattle.program_image.specs.declared.info.MethodInfo.{MethodInfo}
@@ -35,31 +34,30 @@ use Rattle.flow_types.specs.declared.flow_type.FlowType.TheVariants as flow
 use Rattle.flow_types.proofs.ListLaws.{and_parts, and_both}
 use Rattle.flow_types.proofs.TreeLaws.{below-trans, below-from}
 use Rattle.flow_types.proofs.TypeLaws.{top, type-trans}
-use Rattle.instruction_table.specs.ClassTypes.{plain, class_type, desc_type, array_at, method_at, value_type, owner_of, flags_of, result_of, args_of, method_in, is_initialiser, is_static_method}
+use Rattle.instruction_table.specs.ClassTypes.{plain, class_type, desc_type, method_at, value_type, owner_of, flags_of, result_of, args_of, method_in, is_initialiser, is_static_method}
 use Rattle.instruction_table.specs.Needs.{is_long, needs_rules}
 use Rattle.instruction_table.specs.Rows.{row, value, object_of, arguments, result, is_direct, receiver_class}
 use Rattle.instruction_table.specs.Working.{site_of, given, inits_rules, row_rules}
 use Rattle.instruction_table.specs.declared.row.Need.{Need}
 use Rattle.instruction_table.specs.declared.row.Need.TheVariants as need
-use Rattle.instruction_table.specs.declared.row.Row.{Row}
 use Rattle.instruction_table.specs.declared.row.Row.TheVariants as row_of
 use Rattle.instruction_table.specs.declared.rule.TheConstants as rule
 use Rattle.instruction_table.proofs.FitLists.{append_empty}
-use Rattle.flow_verifier.specs.Methods.{begins_fresh, with_half, spread, fitted, parameters, method_with}
+use Rattle.flow_verifier.specs.Methods.{with_half, spread, fitted, parameters}
 use Rattle.frame_ops.specs.Moves.{Calls as CallsIt, Stuck as StuckThere}
 use Rattle.frame_ops.specs.Operands.{is_wide, local_slots, with_reference, unless_null}
-use Rattle.frame_ops.specs.Stepping.{operand_count, call_count, call_values}
+use Rattle.frame_ops.specs.Stepping.{call_count, call_values}
 use Rattle.machine_state.specs.declared.request.Request.TheVariants.{Fault}
-use Rattle.machine_state.specs.Calls.{max_depth, runs, runs_method, runs_selected, with_receiver, is_special_direct, special_call, selected_call, receiver_call, invokes}
+use Rattle.machine_state.specs.Calls.{max_depth, runs, runs_method, runs_selected, selected_call, receiver_call}
 use Rattle.machine_state.specs.Classes.{body_of, is_without_receiver}
 use Rattle.machine_state.specs.Frames.{padded, call_locals, receiver, lock_for, new_frame}
 use Rattle.machine_state.specs.IntrinsicCalls.{calls_intrinsic}
-use Rattle.machine_state.specs.Next.{Next, Calls, Needs, Who, fault, answered}
+use Rattle.machine_state.specs.Next.{Next, Calls, Needs, Who, answered}
 use Rattle.machine_state.specs.PreMade.{holder}
-use Rattle.frame_soundness.specs.AcceptedProgram.{Types, Instruction, Accepted, FlowsTo, entry_types}
+use Rattle.frame_soundness.specs.AcceptedProgram.{Types, Instruction, Accepted, entry_types}
 use Rattle.frame_soundness.specs.Frames.{FrameFits}
 use Rattle.frame_soundness.specs.Holding.{desc_of, answer_type}
-use Rattle.frame_soundness.specs.Meeting.{met, all_met}
+use Rattle.frame_soundness.specs.Meeting.{all_met}
 use Rattle.frame_soundness.specs.Values.{is_there, held, all_held}
 use Rattle.frame_soundness.proofs.HeldLaws.{all-up, class-shape, ClassShape, a_class, an_array}
 use Rattle.frame_soundness.proofs.MoveLaws.{Safe, arguments-length, call-safe, init-met}
@@ -70,7 +68,7 @@ use Rattle.step_soundness.proofs.DescLaws.{exactly_met, exact-take, exact-revers
 use Rattle.step_soundness.proofs.FrameLaws.{Answers}
 use Rattle.step_soundness.proofs.HeapPlans.{is_own, desc-own, own-erased, own-operand, need-suits, Stands, stands, answers, answers-init}
 use Rattle.step_soundness.proofs.NextLaws.{some_is, asked, call-first}
-use Rattle.step_soundness.proofs.Requests.{Entered, Owes}
+use Rattle.step_soundness.proofs.Requests.{Owes}
 use Rattle.step_soundness.proofs.SelectLaws.{Selects, selected, super-is, args-is, result-is, static-alone}
 use Rattle.step_soundness.proofs.StorePlans.{operands_of, there_all}
 

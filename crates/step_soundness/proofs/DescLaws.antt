@@ -1,6 +1,6 @@
 -- Equal descriptors, found items, and values of a call.
-use Rattle.std.proofs.Common.{◌≡◌, ◌∙◌, sym, ap, subst, refl, ℕ, Bool, true, false, List, [], ◌∷◌, ◌++◌, take, length, Option, Some, None, arith}
-use Rattle.std.specs.Prelude.{◌&&◌, ◌||◌, ◌==◌, reverse}
+use Rattle.std.proofs.Common.{◌≡◌, refl, Bool, true, false, List, [], ◌∷◌, ◌++◌, take, length}
+use Rattle.std.specs.Prelude.{◌&&◌, reverse}
 use mathlib.Core.List.{reverse-cons}
 use Rattle.jvm_base.specs.declared.value.Value.{Value}
 use Rattle.program_image.specs.Program.{Program}

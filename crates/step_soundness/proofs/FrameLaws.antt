@@ -1,5 +1,5 @@
 -- Frames that fit, as the frame goes on, and after an answer.
-use Rattle.std.proofs.Common.{◌≡◌, ◌∙◌, refl, ℕ, Bool, true, List, [], Option, Some, None}
+use Rattle.std.proofs.Common.{◌≡◌, ◌∙◌, Bool, true, List, Option}
 use Rattle.std.specs.Option.{option_to_list}
 use Rattle.jvm_base.specs.declared.frame.Frame.{Frame}
 use Rattle.jvm_base.specs.declared.name.Name.{Name}

@@ -1,8 +1,8 @@
 -- Fields and elements that are read: what is asked is right, and the frame fits after.
-use Rattle.std.proofs.Common.{◌≡◌, ◌∙◌, sym, ap, subst, refl, ℕ, zero, suc, ◌-◌, ◌<◌, Bool, true, false, List, [], ◌∷◌, ◌++◌, take, drop, length, Option, Some, None, ◌⊎◌, inl, inr, arith}
-use Rattle.std.specs.Prelude.{◌&&◌, ◌==◌, if◌then◌else◌, nat_lt, slice_get, ℤ, pos}
+use Rattle.std.proofs.Common.{◌≡◌, ◌∙◌, sym, ap, subst, refl, ℕ, suc, ◌-◌, Bool, true, false, List, [], ◌∷◌, ◌++◌, drop, length, Option, Some, None, ◌⊎◌, inl, inr, arith}
+use Rattle.std.specs.Prelude.{◌&&◌, ◌==◌, if◌then◌else◌, nat_lt, slice_get, ℤ}
 use Rattle.std.specs.Option.{option_to_list}
-use Rattle.std.proofs.lemmas.Bool.{cases_Bool, eqb-true}
+use Rattle.std.proofs.lemmas.Bool.{eqb-true}
 use Rattle.std.proofs.lemmas.Bool.Decides.{nat_tests}
 use Rattle.jvm_base.specs.Words.{from}
 use Rattle.jvm_base.specs.declared.desc.Desc.{Desc}
@@ -15,7 +15,6 @@ use Rattle.jvm_base.specs.declared.value.Value.TheVariants.{Int, Long, Ref, Null
 use Rattle.code_table.specs.declared.code.Placed.{Placed}
 use Rattle.code_table.specs.declared.op.Op.{Op}
 use Rattle.code_table.specs.declared.op.Op.TheVariants as op
-use Rattle.code_table.specs.declared.opcode.TheConstants as code
 use Rattle.program_image.specs.declared.info.ArrayInfo.{ArrayInfo}
 use Rattle.program_image.specs.declared.info.Target.{Target}
 use Rattle.program_image.specs.declared.info.Target.TheVariants as target
@@ -43,21 +42,19 @@ use Rattle.instruction_table.specs.declared.row.Gives.TheVariants as gives
 use Rattle.instruction_table.specs.declared.row.Row.{Row}
 use Rattle.instruction_table.specs.declared.row.Row.TheVariants as row_of
 use Rattle.instruction_table.specs.declared.rule.TheConstants as rule
-use Rattle.instruction_table.specs.declared.work.Work.{Work}
 use Rattle.instruction_table.proofs.FitLists.{append_empty}
 use Rattle.instruction_table.proofs.NeedLaws.{judged-view}
 use Rattle.frame_ops.specs.Moves.{Asks as AsksIt, frame_moved}
 use Rattle.frame_ops.specs.Operands.{with_reference}
 use Rattle.frame_ops.specs.Stepping.{operand_count}
-use Rattle.machine_state.specs.declared.request.Request.TheVariants.{Fault}
 use Rattle.machine_state.specs.Instructions.{put_value, loads, gets, puts, field_next}
-use Rattle.machine_state.specs.Next.{Next, answered}
+use Rattle.machine_state.specs.Next.{answered}
 use Rattle.frame_soundness.specs.AcceptedProgram.{Types, FlowsTo, Instruction, Accepted, IsLinked, HasField, next_at}
 use Rattle.frame_soundness.specs.Fitting.{Both, Fits}
 use Rattle.frame_soundness.specs.Frames.{FrameFits}
 use Rattle.frame_soundness.specs.Holding.{field_types, slots_of, component_type}
-use Rattle.frame_soundness.specs.Meeting.{object_meets, met, all_met}
-use Rattle.frame_soundness.specs.Values.{is_there, erased, all_held}
+use Rattle.frame_soundness.specs.Meeting.{met, all_met}
+use Rattle.frame_soundness.specs.Values.{is_there, erased}
 use Rattle.frame_soundness.proofs.HeldLaws.{ClassShape, a_class, an_array, class-shape, all-met, Reference, nothing_there, object, reference as reference_is, part-below, null-shape}
 use Rattle.frame_soundness.proofs.RowLaws.{all_there, all-there, held-append, held-drop, inits-held, uncons}
 use Rattle.frame_soundness.proofs.MoveLaws.{in-table}

@@ -1,20 +1,17 @@
 -- The 34 intrinsics: none is stuck, and what each asks and answers is of its row's types.
-use Rattle.std.proofs.Common.{◌≡◌, ◌∙◌, sym, subst, refl, ℕ, zero, suc, ◌<◌, Bool, true, false, List, [], ◌∷◌, ◌++◌, map, drop, length, Option, Some, None, ◌⊎◌, inl, inr, arith}
-use Rattle.std.specs.Prelude.{◌&&◌, ◌||◌, ◌==◌, not, if◌then◌else◌, slice_get, unsigned_abs, int_lt, ℤ, pos}
+use Rattle.std.proofs.Common.{◌≡◌, ◌∙◌, sym, subst, refl, ℕ, zero, suc, ◌<◌, Bool, true, false, List, [], ◌∷◌, ◌++◌, map, length, Option, Some, None, ◌⊎◌, inl, inr, arith}
+use Rattle.std.specs.Prelude.{◌&&◌, ◌==◌, not, if◌then◌else◌, slice_get, unsigned_abs, int_lt, ℤ, pos}
 use Rattle.std.specs.Fmt.{signed_decimal}
 use Rattle.std.specs.Option.{option_to_list}
 use Rattle.std.proofs.lemmas.Bool.{eqb-true}
 use Rattle.std.proofs.lemmas.Bool.Decides.{nat_tests}
 use Rattle.jvm_base.specs.Words.{from}
 use Rattle.jvm_base.specs.declared.desc.Desc.{Desc}
-use Rattle.jvm_base.specs.declared.desc.MethodDesc.{MethodDesc}
 use Rattle.jvm_base.specs.declared.frame.Frame.{Frame}
 use Rattle.jvm_base.specs.declared.name.Name.{Name}
 use Rattle.jvm_base.specs.declared.value.Value.{Value}
 use Rattle.jvm_base.specs.declared.value.Value.TheVariants.{Int, Long, Ref, Null}
 use Rattle.code_table.specs.declared.code.Placed.{Placed}
-use Rattle.code_table.specs.declared.op.Op.TheVariants as op
-use Rattle.program_image.specs.declared.info.Body.TheVariants.{Intrinsic}
 use Rattle.program_image.specs.Program.{Program}
 use Rattle.program_image.specs.Signatures.{same_text}
 use Rattle.program_image.specs.Words.{instruction_at}
@@ -28,20 +25,18 @@ use Rattle.frame_ops.specs.Stepping.{placed_answered}
 use Rattle.machine_state.specs.declared.request.Request.{Request}
 use Rattle.machine_state.specs.declared.request.Request.TheVariants.{MakeText, Fault, Wait, Notify, NotifyAll, Start, Join, Buffer, Print}
 use Rattle.machine_state.specs.Bodies.{count_value}
-use Rattle.machine_state.specs.Classes.{body_of}
 use Rattle.machine_state.specs.IntrinsicCalls.{with_shown, line_end, char_at, bool_value, same_as, joined, calls_intrinsic}
 use Rattle.machine_state.specs.Intrinsics.{Shown, Number, Letter, Truth, Words}
-use Rattle.machine_state.specs.Next.{Next, Alone, Needs, Wants, Who, answered, with_text, answers as answers_next, fault}
+use Rattle.machine_state.specs.Next.{Next, Alone, Needs, Wants, Who, answered, with_text, answers as answers_next}
 use Rattle.machine_state.specs.PreMade.{holder}
-use Rattle.frame_soundness.specs.AcceptedProgram.{Types, Accepted, entry_types}
+use Rattle.frame_soundness.specs.AcceptedProgram.{Types, Accepted}
 use Rattle.frame_soundness.specs.Frames.{FrameFits}
-use Rattle.frame_soundness.specs.Holding.{desc_of}
 use Rattle.frame_soundness.specs.Natives.{NativeFits, native_at, string_type, buffer_type, thread_type}
 use Rattle.frame_soundness.specs.Values.{is_there, typed, all_held}
 use Rattle.frame_soundness.proofs.HeldLaws.{class-shape, ClassShape, a_class, an_array}
 use Rattle.machine_soundness.specs.Asks.{Asks, buffer_answer}
 use Rattle.machine_soundness.specs.Bodies.{suits, all_suit}
-use Rattle.step_soundness.proofs.CallPlans.{WhoFits, CallFits, IntrinsicsFine, call-answers, suits-held}
+use Rattle.step_soundness.proofs.CallPlans.{WhoFits, IntrinsicsFine, call-answers, suits-held}
 use Rattle.step_soundness.proofs.FrameLaws.{Answers}
 use Rattle.step_soundness.proofs.HeapPlans.{desc-own, own-erased}
 use Rattle.step_soundness.proofs.Requests.{Answered, Owes}

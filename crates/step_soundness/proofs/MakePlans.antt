@@ -1,6 +1,6 @@
 -- Makes, lengths, monitors and returns: what is asked is right, and the frame fits after.
 use Rattle.std.proofs.Common.{◌≡◌, ◌∙◌, sym, ap, subst, refl, ℕ, zero, suc, ◌<◌, Bool, true, false, List, [], ◌∷◌, map, take, length, Option, Some, None, inl, inr, arith}
-use Rattle.std.specs.Prelude.{◌==◌, if◌then◌else◌, not, replicate, slice_get, is_none}
+use Rattle.std.specs.Prelude.{◌==◌, if◌then◌else◌, replicate, slice_get, is_none}
 use Rattle.std.specs.List.{list_any}
 use Rattle.std.specs.Option.{option_to_list}
 use Rattle.std.proofs.lemmas.List.{length-reverse, length-replicate, length-map}
@@ -15,7 +15,6 @@ use Rattle.code_table.specs.declared.code.Placed.{Placed}
 use Rattle.code_table.specs.declared.op.Op.{Op}
 use Rattle.code_table.specs.declared.op.Op.TheVariants as op
 use Rattle.code_table.specs.declared.opcode.TheConstants as code
-use Rattle.program_image.specs.declared.info.ArrayInfo.{ArrayInfo}
 use Rattle.program_image.specs.declared.info.MethodInfo.{MethodInfo}
 use Rattle.program_image.specs.Program.{Program, target_of}
 use Rattle.program_image.specs.Words.{instruction_at}
@@ -23,11 +22,10 @@ use Rattle.flow_types.specs.Tree.{superclasses}
 use Rattle.flow_types.specs.declared.flow_type.FlowType.{FlowType}
 use Rattle.flow_types.specs.declared.flow_type.FlowType.TheVariants as flow
 use Rattle.flow_types.proofs.ListLaws.{and_parts, and_both}
-use Rattle.instruction_table.specs.ClassTypes.{class_type, desc_type, method_at, owner_of, result_of, class_in, array_at}
-use Rattle.instruction_table.specs.Needs.{is_int, is_long, is_reference, is_array, need_rules, needs_rules}
-use Rattle.instruction_table.specs.Rows.{row, falls, value, reference, return_row, return_need, returned_object, is_of_kind}
-use Rattle.instruction_table.specs.Working.{site_of, given, end_rules, row_rules}
-use Rattle.instruction_table.specs.declared.row.Need.{Need}
+use Rattle.instruction_table.specs.ClassTypes.{class_type, desc_type, method_at, owner_of, result_of, class_in}
+use Rattle.instruction_table.specs.Needs.{is_int, is_long, is_reference, is_array, needs_rules}
+use Rattle.instruction_table.specs.Rows.{row, falls, value, reference, return_need, returned_object, is_of_kind}
+use Rattle.instruction_table.specs.Working.{site_of, end_rules, row_rules}
 use Rattle.instruction_table.specs.declared.row.Need.TheVariants as need
 use Rattle.instruction_table.specs.declared.row.Gives.TheVariants as gives
 use Rattle.instruction_table.specs.declared.row.Row.TheVariants as row_of
@@ -43,8 +41,8 @@ use Rattle.machine_state.specs.Instructions.{makes_array, size_of, of_reference,
 use Rattle.machine_state.specs.Next.{Next, Needs, answered}
 use Rattle.frame_soundness.specs.AcceptedProgram.{Types, Accepted, AreArrays}
 use Rattle.frame_soundness.specs.Frames.{FrameFits}
-use Rattle.frame_soundness.specs.Meeting.{object_meets, met, all_met}
-use Rattle.frame_soundness.specs.Values.{is_there, all_held}
+use Rattle.frame_soundness.specs.Meeting.{all_met}
+use Rattle.frame_soundness.specs.Values.{all_held}
 use Rattle.frame_soundness.proofs.HeldLaws.{all-met, class-shape, ClassShape, a_class, an_array}
 use Rattle.frame_soundness.proofs.RowLaws.{all_there}
 use Rattle.machine_soundness.specs.Asks.{Asks}

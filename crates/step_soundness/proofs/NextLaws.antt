@@ -1,7 +1,6 @@
 -- What an instruction plans, by its move: in one form for all instructions.
-use Rattle.std.proofs.Common.{◌≡◌, ◌∙◌, sym, ap, subst, refl, ℕ, zero, suc, ◌+◌, ◌<◌, ◌≤◌, Bool, true, false, List, [], ◌∷◌, ◌++◌, take, drop, length, Option, Some, None, arith}
-use Rattle.std.specs.Prelude.{◌==◌, if◌then◌else◌, reverse, slice_get}
-use Rattle.std.specs.Option.{option_to_list}
+use Rattle.std.proofs.Common.{◌≡◌, ◌∙◌, sym, ap, refl, ℕ, zero, suc, Bool, true, false, List, [], ◌∷◌, ◌++◌, take, Option, Some, None}
+use Rattle.std.specs.Prelude.{if◌then◌else◌, reverse, slice_get}
 use Rattle.std.specs.List.{list_any}
 use mathlib.Core.List.{reverse-cons}
 use Rattle.jvm_base.specs.Words.{from}
@@ -11,23 +10,20 @@ use Rattle.jvm_base.specs.declared.value.Value.{Value}
 use Rattle.jvm_base.specs.declared.value.Value.TheVariants.{Int, Long, Ref, Null}
 use Rattle.code_table.specs.declared.code.Placed.{Placed}
 use Rattle.code_table.specs.declared.op.Op.{Op}
-use Rattle.code_table.specs.declared.op.Op.TheVariants as op
 use Rattle.hierarchy.specs.Walks.{has}
 use Rattle.program_image.specs.declared.info.Target.{Target}
 use Rattle.program_image.specs.Program.{Program, target_of}
-use Rattle.program_image.specs.Words.{instruction_at}
-use Rattle.instruction_table.specs.declared.work.Work.{Work}
 use Rattle.frame_ops.specs.declared.answer.Fault.{Fault as FaultKind}
 use Rattle.frame_ops.specs.declared.answer.Fault.TheVariants as kind
 use Rattle.frame_ops.specs.Moves.{Move, Goes, Jumps, Sets, Raises, Throws as ThrowsIt, Asks as AsksIt, Calls as CallsIt, Leaves as LeavesIt, Stuck as StuckThere, frame_after, frame_moved}
 use Rattle.frame_ops.specs.Operands.{with_reference, unless_null, with_sizes, is_negative_size}
 use Rattle.frame_ops.specs.Stepping.{call_values}
 use Rattle.machine_state.specs.Instructions.{shared_plan, call_plan, returns, fault_class, by_move}
-use Rattle.machine_state.specs.Next.{Next, Alone, Throws, Calls, Leaves, Drops, Needs, Wants, Stuck, Who, fault}
+use Rattle.machine_state.specs.Next.{Next, Alone, Throws, Stuck, Who, fault}
 use Rattle.frame_soundness.specs.AcceptedProgram.{Types, Instruction, Accepted, faults, next_at}
 use Rattle.frame_soundness.specs.Frames.{FrameFits}
 use Rattle.frame_soundness.specs.Moving.{Moves}
-use Rattle.step_soundness.proofs.FrameLaws.{GoesOn, Answers, arrives}
+use Rattle.step_soundness.proofs.FrameLaws.{arrives}
 use Rattle.step_soundness.proofs.Requests.{Owes}
 
 pub some_is : {A : Type 0} {x y : A} → Some x ≡ Some y → x ≡ y

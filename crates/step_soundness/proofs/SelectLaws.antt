@@ -1,22 +1,19 @@
 -- Which method a call runs: an instance method of the called one's descriptor, with something to run,
 -- that a class above the receiver's declares.
-use Rattle.std.proofs.Common.{◌≡◌, ◌∙◌, sym, ap, subst, refl, ℕ, zero, suc, ◌+◌, ◌<◌, Bool, true, false, List, [], ◌∷◌, ◌++◌, map, length, Option, Some, None, ◌⊎◌, inl, inr, arith}
+use Rattle.std.proofs.Common.{◌≡◌, ◌∙◌, sym, ap, subst, refl, ℕ, zero, suc, ◌+◌, ◌<◌, Bool, true, false, List, [], ◌∷◌, ◌++◌, map, length, Option, Some, None, arith}
 use Rattle.std.specs.Prelude.{◌&&◌, ◌||◌, ◌==◌, not, if◌then◌else◌, slice_get, slice_index_or}
-use Rattle.std.specs.List.{flat_map, list_any}
+use Rattle.std.specs.List.{flat_map}
 use Rattle.std.specs.Option.{option_to_list}
 use Rattle.std.proofs.lemmas.Bool.Decides.{nat_tests}
 use Rattle.jvm_base.specs.Words.{from}
-use Rattle.jvm_base.specs.declared.desc.Desc.{Desc}
 use Rattle.jvm_base.specs.declared.desc.MethodDesc.{MethodDesc}
 use Rattle.class_format.specs.Flags.{is_static, is_public}
 use Rattle.class_format.specs.KnownTexts.{is_clinit}
-use Rattle.hierarchy.specs.Hierarchy.{row_of}
 use Rattle.hierarchy.specs.Walks.{walk, all_from, has, or_else, first_some}
 use Rattle.program_image.specs.declared.info.Body.{Body}
 use Rattle.program_image.specs.declared.info.Body.TheVariants.{Abstract, Intrinsic, Code}
 use Rattle.program_image.specs.declared.info.ClassInfo.{ClassInfo}
 use Rattle.program_image.specs.declared.info.MethodInfo.{MethodInfo}
-use Rattle.program_image.specs.declared.select.Selected.{Selected}
 use Rattle.program_image.specs.declared.select.Selected.TheVariants.{Found, NoBody, NoInterface, NotPublic}
 use Rattle.program_image.specs.Program.{Program}
 use Rattle.program_image.specs.Selection.{is_accessible, is_instance, is_like, like_one, methods_of, declared_by, open_in, over_class, supers, found_up, is_abstract_body, chosen, select_of}

@@ -1,5 +1,5 @@
 -- A sound machine stays sound, and no sound thread is stuck.
-use Rattle.std.proofs.Common.{◌≡◌, subst, refl, ℕ, ◌<◌, Bool, true, false, List, [], ◌∷◌, length, Option, Some, None}
+use Rattle.std.proofs.Common.{◌≡◌, subst, refl, ℕ, Bool, true, false, List, [], ◌∷◌, Option, Some, None}
 use Rattle.std.specs.Prelude.{if◌then◌else◌, nat_lt, slice_get, is_some}
 use Rattle.jvm_base.specs.Words.{from}
 use Rattle.jvm_base.specs.declared.frame.Frame.{Frame}

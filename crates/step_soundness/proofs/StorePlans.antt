@@ -1,6 +1,6 @@
 -- Fields, statics and elements that are written, and statics that are read: what is asked is right, and
 -- the frame fits after.
-use Rattle.std.proofs.Common.{◌≡◌, ◌∙◌, sym, ap, subst, refl, ℕ, ◌-◌, ◌<◌, Bool, true, false, List, [], ◌∷◌, take, length, Option, Some, None}
+use Rattle.std.proofs.Common.{◌≡◌, sym, ap, subst, refl, ℕ, ◌-◌, ◌<◌, Bool, true, false, List, [], ◌∷◌, length, Option, Some, None}
 use Rattle.std.specs.Prelude.{◌==◌, if◌then◌else◌, nat_lt, slice_get}
 use Rattle.std.specs.Prelude.{ℤ, pos}
 use Rattle.jvm_base.specs.Words.{from}
@@ -24,10 +24,9 @@ use Rattle.flow_types.specs.declared.element.Element.{Element}
 use Rattle.flow_types.specs.declared.element.Element.TheVariants.{Primitive, Object}
 use Rattle.flow_types.specs.declared.element.Primitive.{Primitive as PrimitiveType}
 use Rattle.flow_types.specs.declared.element.Primitive.TheVariants as primitive
-use Rattle.flow_types.specs.declared.flow_type.FlowType.{FlowType}
 use Rattle.flow_types.specs.declared.flow_type.FlowType.TheVariants as flow
 use Rattle.flow_types.proofs.ListLaws.{and_parts}
-use Rattle.instruction_table.specs.ClassTypes.{plain, class_type, desc_type, element_type, array_at, value_type, field_class_in}
+use Rattle.instruction_table.specs.ClassTypes.{class_type, desc_type, element_type, array_at, value_type, field_class_in}
 use Rattle.instruction_table.specs.Needs.{has_part, is_reference_array}
 use Rattle.instruction_table.specs.Rows.{row, falls, value, reference, array_stores, array_store}
 use Rattle.instruction_table.specs.Working.{part_of, given}
@@ -44,13 +43,13 @@ use Rattle.frame_ops.specs.Operands.{with_reference}
 use Rattle.frame_ops.specs.Stepping.{operand_count}
 use Rattle.machine_state.specs.declared.request.Request.TheVariants.{Get}
 use Rattle.machine_state.specs.Bodies.{takes_value}
-use Rattle.machine_state.specs.Instructions.{put_value, stored_value, stores, gets, puts, puts_static, static_next, static_plan, field_next}
+use Rattle.machine_state.specs.Instructions.{stored_value, stores, gets, puts, puts_static, static_plan, field_next}
 use Rattle.machine_state.specs.Next.{Next, Needs}
 use Rattle.machine_state.specs.PreMade.{holder}
 use Rattle.frame_soundness.specs.AcceptedProgram.{Types, Accepted, IsLinked, HasField}
 use Rattle.frame_soundness.specs.Frames.{FrameFits}
 use Rattle.frame_soundness.specs.Holding.{static_types, component_type}
-use Rattle.frame_soundness.specs.Meeting.{object_meets, met, all_met}
+use Rattle.frame_soundness.specs.Meeting.{met, all_met}
 use Rattle.frame_soundness.specs.Values.{is_there}
 use Rattle.frame_soundness.proofs.HeldLaws.{class-shape, ClassShape, a_class, an_array}
 use Rattle.frame_soundness.proofs.RowLaws.{all_there}

@@ -1,8 +1,7 @@
 -- Threads: what a thread's next step takes is right, by its mode and its top level.
-use Rattle.std.proofs.Common.{◌≡◌, ◌∙◌, sym, ap, subst, refl, ℕ, zero, suc, ◌<◌, Bool, true, false, List, [], ◌∷◌, ◌++◌, length, Option, Some, None, ◌⊎◌, inl, inr, arith}
+use Rattle.std.proofs.Common.{◌≡◌, ◌∙◌, sym, ap, subst, refl, ℕ, zero, suc, ◌<◌, Bool, true, false, List, [], ◌∷◌, length, Option, Some, None, ◌⊎◌, inl, inr, arith}
 use Rattle.std.specs.Prelude.{◌==◌, if◌then◌else◌, nat_lt, not, slice_get, is_none, is_some}
 use Rattle.std.specs.Option.{option_to_list}
-use Rattle.jvm_base.specs.Tops.{below, with_top}
 use Rattle.jvm_base.specs.Words.{from}
 use Rattle.jvm_base.specs.declared.frame.Frame.{Frame}
 use Rattle.jvm_base.specs.declared.frame.Level.{Level}
@@ -42,7 +41,7 @@ use Rattle.machine_state.specs.declared.state.ThreadState.{ThreadState}
 use Rattle.machine_state.specs.Calls.{max_depth, calls}
 use Rattle.machine_state.specs.Changes.{changed}
 use Rattle.machine_state.specs.Classes.{clinit_of, thread_run}
-use Rattle.machine_state.specs.Complete.{Stand, answer_top, below_init, entered, left, left_by, after_init, given, raised_by, waited_lock, slept, complete}
+use Rattle.machine_state.specs.Complete.{Stand, answer_top, entered, left, left_by, after_init, given, raised_by, waited_lock, slept, complete}
 use Rattle.machine_state.specs.Deeds.{Deed}
 use Rattle.machine_state.specs.Frames.{lock_for, first_phase, new_frame, noted, called}
 use Rattle.machine_state.specs.Locks.{retakes}
@@ -69,7 +68,7 @@ use Rattle.machine_soundness.proofs.LevelGrowth.{suit-grows, lower-grows, levels
 use Rattle.machine_soundness.proofs.ServeLaws.{AnswerFits, DeedFits}
 use Rattle.machine_soundness.proofs.StateLaws.{TakenFits}
 use Rattle.step_soundness.proofs.BodyPlans.{body-fine}
-use Rattle.step_soundness.proofs.CallPlans.{WhoFits, CallFits, IntrinsicsFine, new-frame, receiver-call, static-call, suits-held, returned-fits}
+use Rattle.step_soundness.proofs.CallPlans.{WhoFits, IntrinsicsFine, new-frame, receiver-call, static-call, suits-held, returned-fits}
 use Rattle.step_soundness.proofs.FrameLaws.{Answers, arrives}
 use Rattle.step_soundness.proofs.IntrinsicPlans.{method-stays, phase-stays}
 use Rattle.step_soundness.proofs.NextLaws.{some_is}
