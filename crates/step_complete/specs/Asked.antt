@@ -16,3 +16,14 @@ request_like asked.InitDone = InitDone 0
 request_like asked.InitFail = InitFail 0 false
 request_like asked.Finish = Finish None
 request_like asked.Other = Len no_name
+
+-- which they are
+abbrev pub asked_for : Request → Asked
+asked_for (Enter n) = asked.Enter
+asked_for (Exit n raising) = asked.Exit raising
+asked_for (Wait n) = asked.Wait n
+asked_for (Begin c) = asked.Begin c
+asked_for (InitDone c) = asked.InitDone
+asked_for (InitFail c made) = asked.InitFail
+asked_for (Finish e) = asked.Finish
+asked_for _ = asked.Other

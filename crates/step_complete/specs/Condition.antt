@@ -67,7 +67,8 @@ given_turn _ v = turn.Notes
 abbrev pub CanComplete : Program → Asked → Answer → List Level → Type 0
 CanComplete p a (Gives v) ls = CanTurn p (given_turn a v) ls
 CanComplete p a (Raises e) ls = Unit {0}
-CanComplete p a (Slept k) ls = CanTurn p (turn.Answers None) ls
+CanComplete p (asked.Wait lock) (Slept k) ls = CanTurn p (turn.Answers None) ls
+CanComplete p a (Slept k) ls = Unit {0}
 
 -- a class's initialisation begins
 abbrev pub begins : Asked → Answer → Bool

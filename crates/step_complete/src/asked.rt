@@ -6,7 +6,7 @@ ghost use Rattle.program_image.specs.Program.{Program};
 ghost use Rattle.machine_state.specs.declared.request.Answer.{Answer as AnyAnswer};
 ghost use Rattle.machine_state.specs.declared.state.Mode.{Mode as AnyMode};
 ghost use Rattle.machine_state.specs.Complete.{complete};
-ghost use Rattle.step_complete.specs.Asked.{request_like};
+ghost use Rattle.step_complete.specs.Asked.{request_like, asked_for};
 
 use jvm_base::Name;
 use machine_state::Request;
@@ -28,7 +28,8 @@ pub enum Asked {
 /// What completing needs to know of a request, to be kept where the request is handed in.
 #[tactic(auto, unfolding(machine_state::specs::Complete::complete))]
 pub fn asked_of(request: &Request) -> Asked
-    ensures { (p : Program) (a : AnyAnswer) (mode : AnyMode) (ls : List AnyLevel) →
+    ensures asked { result ≡ asked_for request.now }
+    ensures alike { (p : Program) (a : AnyAnswer) (mode : AnyMode) (ls : List AnyLevel) →
         complete p request.now a mode ls ≡ complete p (request_like result) a mode ls }
 {
     match request {
