@@ -4,3 +4,4 @@ pub mod HeapLaws
 pub mod OnErrs
 pub mod MakingLaws
 pub mod StoredLaws
+pub mod StartLaws

@@ -16,7 +16,7 @@ use Rattle.shared_state.proofs.HeapLaws.{made_gone}
 
 module _ {A : Type 0} where
   -- the rest from a place on begins with its item
-  drop_at : (xs : List A) (i : ℕ) (x : A) → slice_get xs i ≡ Some x → drop i xs ≡ x ∷ drop (suc i) xs
+  pub drop_at : (xs : List A) (i : ℕ) (x : A) → slice_get xs i ≡ Some x → drop i xs ≡ x ∷ drop (suc i) xs
   drop_at [] i x e = absurd cc
   drop_at (y ∷ ys) zero x e = ap (λ z. z ∷ ys) (some_inside e)
     where

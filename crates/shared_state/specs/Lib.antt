@@ -3,3 +3,4 @@ pub mod Orderly
 pub mod Looks
 pub mod Making
 pub mod Stored
+pub mod First

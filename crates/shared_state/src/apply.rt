@@ -15,7 +15,7 @@ use machine_state::{ClassState, Effect, Effects, Mode, Waiter};
 use std::alloc::Global;
 
 /// A thread is started on an object, as the last one.
-fn start(alloc: Global, threads: &mut Vec<Thread>, object: Name) -> Result<(), NoMemory>
+pub(crate) fn start_thread(alloc: Global, threads: &mut Vec<Thread>, object: Name) -> Result<(), NoMemory>
     ensures ok { OnOk result (map thread_state threads.new.items
         ≡ map thread_state threads.old.items ++ new_thread object ∷ []) }
     ensures first { HasFirst threads.old.items threads.new.items }
@@ -64,7 +64,7 @@ impl Shared {
             Effect::Moved(lock, thread) => wake(&mut self.waiting, lock, thread),
             Effect::MovedAll(lock) => wake_all(&mut self.waiting, lock),
             Effect::Becomes(class, state) => set_class(&mut self.classes, class, state),
-            Effect::Started(object) => start(alloc, threads, object)?,
+            Effect::Started(object) => start_thread(alloc, threads, object)?,
             Effect::Lost(exception) => self.uncaught.push(exception)?,
             Effect::Printed(bytes) => self.output.extend_from_slice(bytes.as_slice())?,
         }

@@ -6,6 +6,7 @@ ghost use Rattle.std.specs.Map.{remove_entry};
 ghost use Rattle.std.specs.BTreeMap.{is_at};
 ghost use Rattle.jvm_base.specs.Names.{name_cmp};
 ghost use Rattle.jvm_base.specs.Maps.{put};
+ghost use Rattle.jvm_base.specs.declared.value.ObjectBody.TheVariants.{Text};
 ghost use Rattle.machine_state.specs.State.{body_at};
 ghost use Rattle.machine_state.specs.Changes.{altered, with_field, with_element, with_content};
 ghost use Rattle.machine_state.specs.Serving.{content_of};
@@ -13,7 +14,7 @@ ghost use Rattle.machine_state.specs.Step.{text_in};
 ghost use Rattle.step_serve.specs.Cells.{lent_body};
 ghost use Rattle.shared_state.specs.Stored.{stored_body};
 
-use crate::stored::{Stored, append, content, keep, lend, set_element, set_field};
+use crate::stored::{Stored, append, content, copied, keep, lend, set_element, set_field};
 use jvm_base::{Name, NoMemory, ObjectBody, Value};
 use std::alloc::Global;
 use std::collections::BTreeMap;
@@ -83,13 +84,30 @@ impl Heap {
     }
 
     /// An object is there under the name, in place of any other.
+    fn put(&mut self, name: Name, object: Stored) -> Result<(), NoMemory>
+        ensures ok { OnOk result (self.new ≡ put name_cmp name (stored_body object) self.old) }
+        ensures err { OnErr result (self.new ≡ self.old) }
+    {
+        self.objects.insert(name, object)?;
+        Ok(())
+    }
+
+    /// An object is made under the name, in place of any other.
     pub fn make(&mut self, alloc: Global, name: Name, body: ObjectBody) -> Result<(), NoMemory>
         ensures ok { OnOk result (self.new ≡ put name_cmp name body self.old) }
         ensures err { OnErr result (self.new ≡ self.old) }
     {
         let object = keep(alloc, body)?;
-        self.objects.insert(name, object)?;
-        Ok(())
+        self.put(name, object)
+    }
+
+    /// A String of the units is made under the name, in place of any other.
+    pub fn make_text(&mut self, alloc: Global, name: Name, units: &[u16]) -> Result<(), NoMemory>
+        ensures ok { OnOk result (self.new ≡ put name_cmp name (Text units.now) self.old) }
+        ensures err { OnErr result (self.new ≡ self.old) }
+    {
+        let text = copied(alloc, units)?;
+        self.put(name, Stored::Text(text))
     }
 
     /// An object goes. It takes no memory.

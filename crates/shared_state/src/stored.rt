@@ -21,7 +21,7 @@ pub(crate) enum Stored {
 }
 
 /// A copy of units.
-fn copied(alloc: Global, units: &[u16]) -> Result<List<u16>, NoMemory>
+pub(crate) fn copied(alloc: Global, units: &[u16]) -> Result<List<u16>, NoMemory>
     ensures { IfOk result (λ list. list ≡ units.now) }
 {
     Ok(List::from_vec(Vec::from_slice(alloc, units)?))
