@@ -1,15 +1,15 @@
 -- Objects that are made one after the other.
-use Rattle.std.proofs.Common.{◌≡◌, ◌∙◌, sym, refl, ap, subst, ℕ, zero, suc, ◌+◌, ◌<◌, ◌≤◌, List, [], ◌∷◌, ◌++◌, take, drop, length, Some, None, arith, length-append, map}
+use Rattle.std.proofs.Common.{◌≡◌, ◌∙◌, sym, refl, ap, subst, ℕ, zero, suc, ◌+◌, ◌<◌, ◌≤◌, List, [], ◌∷◌, ◌++◌, take, drop, length, Some, arith, length-append, map}
 use Rattle.std.specs.Prelude.{slice_get, slice_set}
 use Rattle.machine_state.specs.declared.served.Effect.{Effect}
 use Rattle.machine_state.specs.declared.served.Effect.TheVariants as effect
-use Rattle.machine_state.specs.State.{Heap, body_at}
+use Rattle.machine_state.specs.State.{Heap}
 use Rattle.shared_state.specs.Making.{with_made, all_made, AllNew, mark_of, unmade, all_unmade, IsNext}
-use Rattle.shared_state.specs.Orderly.{AreNew, IsOrderly, ArePair}
+use Rattle.shared_state.specs.Orderly.{AreNew, IsOrderly}
 use Rattle.shared_state.specs.Parts.{Parts, state_of}
 use Rattle.shared_state.specs.declared.thread.Thread.{Thread}
 use Rattle.machine_state.specs.Serving.{change_of}
-use Rattle.machine_state.specs.Changes.{Change, changed}
+use Rattle.machine_state.specs.Changes.{changed}
 use Rattle.jvm_base.specs.Maps.{put}
 use Rattle.jvm_base.specs.Names.{name_cmp}
 use Rattle.shared_state.proofs.HeapLaws.{made_gone}

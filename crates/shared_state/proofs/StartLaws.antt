@@ -27,7 +27,7 @@ states_step old new s i ks h n e v =
     let d = drop_some ks i h in
     let one : i + 1 ≡ suc i = omega arith in
     let next : first_states i (drop i ks) ≡ s ∷ first_states (i + 1) (drop (i + 1) ks) =
-        ap (first_states i) d.1 ∙ (ap (λ k. (if nat_lt i boot_class_count then Done else Untouched) ∷ first_states (i + 1) (drop k ks)) (sym one) ∙ ap (λ x. x ∷ first_states (i + 1) (drop (i + 1) ks)) (sym e)) in
+    ap (first_states i) d.1 ∙ (ap (λ k. (if nat_lt i boot_class_count then Done else Untouched) ∷ first_states (i + 1) (drop k ks)) (sym one) ∙ ap (λ x. x ∷ first_states (i + 1) (drop (i + 1) ks)) (sym e)) in
     ap (λ xs. xs ++ first_states (i + 1) (drop (i + 1) ks)) n ∙ (append_assoc old (s ∷ []) (first_states (i + 1) (drop (i + 1) ks)) ∙ (sym (ap (λ xs. old ++ xs) next) ∙ v))
 
 -- and its holder

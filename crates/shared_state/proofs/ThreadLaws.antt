@@ -1,7 +1,6 @@
 -- Whether the first thread of an object has ended.
-use Rattle.std.proofs.Common.{◌≡◌, ◌∙◌, sym, refl, ap, ℕ, Bool, true, false, List, [], ◌∷◌, Option, Some, None, ◌⊎◌, inl, inr}
+use Rattle.std.proofs.Common.{◌≡◌, ◌∙◌, refl, ap, List, [], ◌∷◌, Some, None, inl, inr}
 use Rattle.std.specs.Prelude.{map, find}
-use Rattle.std.specs.Option.{option_copied}
 use Rattle.std.proofs.lemmas.Bool.{cases_Bool}
 use Rattle.jvm_base.specs.Names.{name_eq}
 use Rattle.jvm_base.specs.Words.{from}

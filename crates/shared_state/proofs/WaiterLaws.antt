@@ -1,11 +1,10 @@
 -- Who sleeps on a lock, and whose lock it is.
-use Rattle.std.proofs.Common.{◌≡◌, ◌∙◌, sym, refl, ap, ℕ, Bool, true, false, ◌==◌, ◌&&◌, cond, List, [], ◌∷◌, Some, None, arith}
+use Rattle.std.proofs.Common.{◌≡◌, sym, refl, ap, ℕ, Bool, true, false, List, [], ◌∷◌, None, arith}
 use Rattle.std.proofs.lemmas.Bool.{cases_Bool}
-use Rattle.std.proofs.Common.{◌⊎◌, inl, inr}
+use Rattle.std.proofs.Common.{inl, inr}
 use Rattle.std.specs.List.{list_any}
-use Rattle.std.specs.Map.{remove_entry, lookup}
+use Rattle.std.specs.Map.{remove_entry}
 use Rattle.std.specs.BTreeMap.{is_at}
-use Rattle.std.specs.FinMap.Entries.{where_key}
 use Rattle.hierarchy.specs.Walks.{has}
 use Rattle.jvm_base.specs.Names.{name_cmp, name_eq}
 use Rattle.jvm_base.specs.declared.name.Name.{Name}

@@ -1,6 +1,5 @@
 -- What threads share, and their table, as the code keeps them apart.
-use Rattle.std.specs.Prelude.{◌≡◌, ℕ, List, ◌++◌, map, reverse, Option, slice_set}
-use Rattle.std.specs.Borrow.{MutBor, Fml, LendsIf}
+use Rattle.std.specs.Prelude.{◌≡◌, ℕ, List, ◌++◌, map, reverse}
 use Rattle.jvm_base.specs.declared.value.Uncaught.{Uncaught}
 use Rattle.machine_state.specs.declared.state.ThreadState.{ThreadState}
 use Rattle.machine_state.specs.declared.state.Waiter.{Waiter}

@@ -15,7 +15,11 @@ use machine_state::{ClassState, Effect, Effects, Mode, Waiter};
 use std::alloc::Global;
 
 /// A thread is started on an object, as the last one.
-pub(crate) fn start_thread(alloc: Global, threads: &mut Vec<Thread>, object: Name) -> Result<(), NoMemory>
+pub(crate) fn start_thread(
+    alloc: Global,
+    threads: &mut Vec<Thread>,
+    object: Name,
+) -> Result<(), NoMemory>
     ensures ok { OnOk result (map thread_state threads.new.items
         ≡ map thread_state threads.old.items ++ new_thread object ∷ []) }
     ensures first { HasFirst threads.old.items threads.new.items }

@@ -91,7 +91,12 @@ fn own_statics(alloc: Global, fields: &[FieldInfo]) -> Result<List<Value>, NoMem
 }
 
 /// What the holder of a class's statics has.
-fn first_statics(alloc: Global, image: &Image, class: u32, out: Name) -> Result<List<Value>, NoMemory>
+fn first_statics(
+    alloc: Global,
+    image: &Image,
+    class: u32,
+    out: Name,
+) -> Result<List<Value>, NoMemory>
     requires class_in { class < length image.now.classes }
     requires out { out ≡ stream image.now }
     ensures { IfOk result (λ values. values ≡ first_statics image.now class) }
@@ -206,7 +211,12 @@ fn first_heap(
     let out = named(PRINT_STREAM, first - 2);
     let mut heap = Heap::new(alloc);
     put_holders(alloc, &mut heap, image, out)?;
-    put_texts(alloc, &mut heap, image.classes(), image.literals().as_slice())?;
+    put_texts(
+        alloc,
+        &mut heap,
+        image.classes(),
+        image.literals().as_slice(),
+    )?;
     heap.make(alloc, out, ObjectBody::Fields(opening.stream))?;
     let texts = references(alloc, first, args)?;
     heap.make(alloc, opening.array, ObjectBody::Array(texts))?;

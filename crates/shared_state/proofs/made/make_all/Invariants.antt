@@ -1,4 +1,4 @@
-use Rattle.std.proofs.Common.{◌≡◌, ◌≤◌, take, drop, length}
+use Rattle.std.proofs.Common.{◌≡◌, take, drop, length}
 use Rattle.std.specs.Prelude.{ℕ, List}
 use Rattle.machine_state.specs.State.{Heap}
 use Rattle.machine_state.specs.declared.served.Effect.{Effect}

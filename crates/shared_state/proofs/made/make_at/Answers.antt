@@ -1,6 +1,3 @@
-use Rattle.std.proofs.Common.{◌≡◌, ◌∙◌, ap, sym, subst, Some}
-use Rattle.std.specs.Prelude.{slice_set}
-use Rattle.shared_state.specs.Making.{IsNext, with_made}
 use Rattle.shared_state.proofs.OnErrs.{on_ok_more}
 use Rattle.shared_state.proofs.MakingLaws.{made_here}
 use Rattle.shared_state.proofs.made.make_at.Goals as goal

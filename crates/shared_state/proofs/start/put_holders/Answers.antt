@@ -1,4 +1,4 @@
-use Rattle.std.proofs.Common.{◌≡◌, ◌∙◌, ap, ◌<◌, length, arith}
+use Rattle.std.proofs.Common.{◌∙◌, ap, ◌<◌, length, arith}
 use Rattle.jvm_base.specs.Maps.{put}
 use Rattle.jvm_base.specs.Names.{name_cmp}
 use Rattle.jvm_base.specs.declared.value.ObjectBody.TheVariants.{Fields}

@@ -1,4 +1,4 @@
-use Rattle.std.proofs.Common.{◌≡◌, ◌∙◌, ap, sym, subst, None}
+use Rattle.std.proofs.Common.{◌≡◌, ◌∙◌, ap, subst, None}
 use Rattle.machine_state.specs.State.{owner_at}
 use Rattle.machine_state.specs.Changes.{without_owner}
 use Rattle.shared_state.proofs.WaiterLaws.{one_goes}

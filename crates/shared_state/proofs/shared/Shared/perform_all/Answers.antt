@@ -1,4 +1,4 @@
-use Rattle.std.proofs.Common.{◌≡◌, ◌∙◌, ap, sym, subst, ◌<◌, length, arith, map}
+use Rattle.std.proofs.Common.{◌∙◌, ap, sym, subst, ◌<◌, length, arith, map}
 use Rattle.machine_state.specs.Changes.{changed}
 use Rattle.machine_state.specs.Serving.{change_of}
 use Rattle.shared_state.specs.Parts.{state_of}
