@@ -1,0 +1,6 @@
+//! What the classes of a linked program owe to their types, as a law.
+#![tactic(auto)]
+
+mod laws;
+
+pub use laws::classes_are_typed;
