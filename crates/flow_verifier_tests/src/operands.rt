@@ -130,6 +130,10 @@ const NO_LOCAL: &str = "
 9 m (I)V 2.1 1e 58 b1 -> rule 5 at 0
 9 m ()V 0.0 84 00 01 b1 -> rule 5 at 0
 9 m (I)V 0.1 84 00 01 b1 -> ok
+# `<clinit>` has no receiver, whatever its flags
+1 m ()V 0.0 b1 -> rule 5 at 0
+8 <clinit> ()V 0.0 b1 -> ok
+0 <clinit> ()V 0.0 b1 -> ok
 # wide iload 256
 9 m ()V 1.100 c4 15 0100 57 b1 -> rule 5 at 0
 9 m ()V 1.101 03 c4 36 0100 c4 15 0100 57 b1 -> ok
@@ -143,6 +147,8 @@ const LOCAL: &str = "
 9 m (I)V 1.1 2a 57 b1 -> rule 6 at 0
 9 m (LA;)V 1.1 2a 57 b1 -> ok
 9 m (LA;)V 1.1 1a 57 b1 -> rule 6 at 0
+1 m ()V 1.1 2a 57 b1 -> ok
+0 <clinit> ()V 1.1 2a 57 b1 -> rule 6 at 0
 # a long, and its halves
 9 m (J)V 2.2 1e 58 b1 -> ok
 9 m (J)V 1.2 1a 57 b1 -> rule 6 at 0
