@@ -3,7 +3,7 @@
 ghost use Rattle.std.specs.Prelude.{◌≡◌, ◌∷◌, ◌<◌, reverse, vec_len, vec_capacity};
 ghost use Rattle.jvm_base.specs.declared.frame.Level.TheVariants.{Code};
 ghost use Rattle.machine_state.specs.Frames.{noted};
-ghost use Rattle.step_complete.specs.Condition.{AreRising};
+ghost use Rattle.program_reads.specs.Whole.{IsWhole};
 ghost use Rattle.step_after.specs.Going.{stand_of, CanGoOn};
 
 use jvm_base::{Frame, Level, Name, Value};
@@ -26,7 +26,7 @@ pub enum After {
 
 /// A frame is put on top; an initialisation below notes that its initialiser was called.
 fn call(image: &Image, frame: Frame, levels: &mut Vec<Level>)
-    requires rising { AreRising image.now }
+    requires whole { IsWhole image.now }
     requires room { vec_len levels.old < vec_capacity levels.old }
     ensures { reverse levels.new.items ≡ Code frame ∷ noted (reverse levels.old.items) }
 {
@@ -37,7 +37,7 @@ fn call(image: &Image, frame: Frame, levels: &mut Vec<Level>)
 /// The thread goes on so, after an answer. It takes no memory: room for a level was made before.
 #[tactic(auto, unfolding(crate::specs::Going::stand_of))]
 pub fn go_on(image: &Image, after: After, answer: Answer, mode: &mut Mode, levels: &mut Vec<Level>)
-    requires rising { AreRising image.now }
+    requires whole { IsWhole image.now }
     requires can { CanGoOn image.now after answer (reverse levels.old.items) }
     requires room { vec_len levels.old < vec_capacity levels.old }
     ensures { stand_of image.now after answer mode.old (reverse levels.old.items)

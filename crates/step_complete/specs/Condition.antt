@@ -6,24 +6,18 @@ use Rattle.jvm_base.specs.declared.frame.Phase.TheVariants as phase
 use Rattle.jvm_base.specs.declared.frame.Frame.{Frame}
 use Rattle.jvm_base.specs.declared.frame.Level.{Level}
 use Rattle.jvm_base.specs.declared.frame.Level.TheVariants.{Code}
-use Rattle.code_table.specs.declared.code.Code.{Code as MethodCode}
 use Rattle.code_table.specs.declared.code.Placed.{Placed}
 use Rattle.code_table.specs.declared.op.Op.{Op}
 use Rattle.code_table.specs.declared.op.Op.TheVariants as op
-use Rattle.program_image.specs.Handlers.{code_of}
 use Rattle.program_image.specs.Program.{Program}
 use Rattle.program_image.specs.Words.{instruction_at}
-use Rattle.frame_ops.specs.Stepping.{IsRising, CanRun, CanTake}
+use Rattle.frame_ops.specs.Stepping.{CanRun, CanTake}
 use Rattle.machine_state.specs.declared.request.Answer.{Answer}
 use Rattle.machine_state.specs.declared.request.Answer.TheVariants.{Gives, Raises, Slept}
 use Rattle.step_complete.specs.declared.asked.Asked.{Asked}
 use Rattle.step_complete.specs.declared.asked.Asked.TheVariants as asked
 use Rattle.step_complete.specs.declared.turns.Turn.{Turn}
 use Rattle.step_complete.specs.declared.turns.Turn.TheVariants as turn
-
--- addresses rise in each method
-abbrev pub AreRising : Program → Type 0
-AreRising p = (m : ℕ) (code : MethodCode) → code_of p m ≡ Some code → IsRising code.ops
 
 -- the frame's instruction, where there is one, takes this answer
 abbrev pub TakesAnswer : Program → Option Value → Frame → Type 0

@@ -4,7 +4,8 @@ ghost use Rattle.std.specs.Prelude.{◌≡◌, ◌<◌, true, reverse, vec_len, 
 ghost use Rattle.machine_state.specs.declared.request.Answer.TheVariants.{Gives};
 ghost use Rattle.machine_state.specs.Complete.{complete, below_init, after_init};
 ghost use Rattle.step_complete.specs.Asked.{request_like};
-ghost use Rattle.step_complete.specs.Condition.{AreRising, CanTurn, CanComplete, given_turn, begins};
+ghost use Rattle.program_reads.specs.Whole.{IsWhole};
+ghost use Rattle.step_complete.specs.Condition.{CanTurn, CanComplete, given_turn, begins};
 
 use crate::asked::Asked;
 use crate::turns::{Turn, turn_top};
@@ -35,7 +36,7 @@ fn after_init(levels: &[Level]) -> Mode
 /// After a value, or after none.
 #[tactic(auto, unfolding(machine_state::specs::Complete::complete))]
 fn give(image: &Image, asked: Asked, value: Option<Value>, mode: &mut Mode, levels: &mut Vec<Level>)
-    requires rising { AreRising image.now }
+    requires whole { IsWhole image.now }
     requires can { CanTurn image.now (given_turn asked value) (reverse levels.old.items) }
     requires room { begins asked (Gives value) ≡ true → vec_len levels.old < vec_capacity levels.old }
     ensures { complete image.now (request_like asked) (Gives value) mode.old (reverse levels.old.items)
@@ -76,7 +77,7 @@ pub fn complete(
     mode: &mut Mode,
     levels: &mut Vec<Level>,
 )
-    requires rising { AreRising image.now }
+    requires whole { IsWhole image.now }
     requires can { CanComplete image.now asked answer (reverse levels.old.items) }
     requires room { begins asked answer ≡ true → vec_len levels.old < vec_capacity levels.old }
     ensures { complete image.now (request_like asked) answer mode.old (reverse levels.old.items)

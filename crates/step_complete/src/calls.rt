@@ -5,7 +5,8 @@ ghost use Rattle.jvm_base.specs.Tops.{below};
 ghost use Rattle.machine_state.specs.declared.state.Mode.TheVariants.{Running};
 ghost use Rattle.machine_state.specs.Complete.{answer_top};
 ghost use Rattle.machine_state.specs.Frames.{called};
-ghost use Rattle.step_complete.specs.Condition.{AreRising, CanTurn};
+ghost use Rattle.program_reads.specs.Whole.{IsWhole};
+ghost use Rattle.step_complete.specs.Condition.{CanTurn};
 ghost use Rattle.step_complete.specs.declared.turns.Turn.TheVariants as turn;
 
 use crate::frames::new_frame;
@@ -31,7 +32,7 @@ pub fn call(
     values: &[Value],
     levels: &mut Vec<Level>,
 ) -> Result<bool, NoMemory>
-    requires rising { AreRising image.now }
+    requires whole { IsWhole image.now }
     ensures made { result ≡ Ok true → called image.now method values.now (reverse levels.old.items)
         ≡ Some (Running, reverse levels.new.items) }
     ensures none { result ≡ Ok false → called image.now method values.now (reverse levels.old.items) ≡ None }
@@ -49,7 +50,7 @@ pub fn call(
 
 /// The top frame goes, and the one below goes on with its result. It takes no memory.
 pub fn leave(image: &Image, value: Option<Value>, levels: &mut Vec<Level>)
-    requires rising { AreRising image.now }
+    requires whole { IsWhole image.now }
     requires can { CanTurn image.now (turn.Answers value) (below (reverse levels.old.items)) }
     ensures { reverse levels.new.items ≡ answer_top image.now value (below (reverse levels.old.items)) }
 {

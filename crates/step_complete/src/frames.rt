@@ -8,20 +8,14 @@ ghost use Rattle.frame_ops.specs.Operands.{local_slots};
 ghost use Rattle.machine_state.specs.Frames.{padded, call_locals, receiver, lock_for, first_phase, new_frame};
 ghost use Rattle.machine_state.specs.PreMade.{holder};
 
-use crate::code::code_of;
 use class_format::{CLINIT, STATIC, has_flag};
 use jvm_base::{Frame, List, Name, NoMemory, Operands, Phase, Value};
 use program_image::{Image, MethodInfo};
+use program_reads::{code_of, holder};
 use std::alloc::Global;
 
 /// ACC_SYNCHRONIZED, of a method.
 const SYNCHRONIZED: u16 = 0x0020;
-
-/// The number of `java/lang/Class` among the boot classes.
-const CLASS: u32 = 1;
-
-/// The node of names that no step makes.
-const NO_NODE: u8 = 255;
 
 /// The values of a call as locals: a long takes two.
 fn spread(values: &[Value], locals: &mut Vec<Value>) -> Result<(), NoMemory>
@@ -54,17 +48,6 @@ fn call_locals(alloc: Global, count: u32, values: &[Value]) -> Result<List<Value
     spread(values, &mut locals)?;
     pad(&mut locals, count)?;
     Ok(List::from_vec(locals))
-}
-
-/// The object that holds a class's statics and is its lock.
-fn holder(class: u32) -> Name
-    ensures { result ≡ holder class }
-{
-    Name {
-        node: NO_NODE,
-        class: CLASS,
-        index: class,
-    }
 }
 
 /// Whether a call of the method has no receiver; `<clinit>` counts as static.

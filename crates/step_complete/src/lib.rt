@@ -4,13 +4,11 @@
 mod asked;
 mod by_answer;
 mod calls;
-mod code;
 mod frames;
 mod turns;
 
 pub use asked::{Asked, asked_of};
 pub use by_answer::complete;
 pub use calls::{call, drop_top, leave, reserve_level};
-pub use code::instruction_at;
 pub use frames::new_frame;
 pub use turns::{Turn, turn_top};

@@ -6,15 +6,16 @@ ghost use Rattle.frame_ops.specs.Operands.{returned};
 ghost use Rattle.machine_state.specs.Complete.{left_by};
 ghost use Rattle.machine_state.specs.Next.{answered};
 ghost use Rattle.program_image.specs.Words.{instruction_at};
-ghost use Rattle.step_complete.specs.Condition.{AreRising, TakesAnswer, CanTurnFrame, CanTurn};
+ghost use Rattle.program_reads.specs.Whole.{IsWhole};
+ghost use Rattle.step_complete.specs.Condition.{TakesAnswer, CanTurnFrame, CanTurn};
 ghost use Rattle.step_complete.specs.declared.turns.Turn.TheVariants as turn;
 ghost use Rattle.step_complete.specs.Turns.{frame_stepped, frame_caught, turned};
 
-use crate::code::instruction_at;
 use code_table::{Op, opcode};
 use frame_ops::{Given, complete_at, step_at};
 use jvm_base::{Frame, Level, Name, Phase, Value};
 use program_image::Image;
+use program_reads::instruction_at;
 
 /// A change of the top level. Its frame's instruction is answered; a lock is entered for the frame
 /// itself or by its instruction; one is left by its instruction, or because an exception passes; an
@@ -33,7 +34,7 @@ pub enum Turn {
 
 /// The frame goes on with an answer.
 fn answer(image: &Image, value: Option<Value>, frame: &mut Frame)
-    requires rising { AreRising image.now }
+    requires whole { IsWhole image.now }
     requires takes { TakesAnswer image.now value frame.old }
     ensures { frame.new ≡ answered image.now value frame.old }
 {
@@ -44,7 +45,7 @@ fn answer(image: &Image, value: Option<Value>, frame: &mut Frame)
 
 /// A lock is entered for the frame itself, or by its instruction.
 fn enter(image: &Image, frame: &mut Frame)
-    requires rising { AreRising image.now }
+    requires whole { IsWhole image.now }
     requires takes { CanTurnFrame image.now turn.Enters frame.old }
     ensures { level.Code frame.new ∷ [] ≡ turned image.now turn.Enters (level.Code frame.old ∷ []) }
 {
@@ -67,7 +68,7 @@ fn returned(op: u8, frame: &Frame) -> Option<Value>
 
 /// A lock is left by a return, which keeps its value, or by another instruction.
 fn leave(image: &Image, frame: &mut Frame)
-    requires rising { AreRising image.now }
+    requires whole { IsWhole image.now }
     requires takes { CanTurnFrame image.now turn.Leaves frame.old }
     ensures { frame.new ≡ left_by image.now frame.old (instruction_at image.now frame.old.method frame.old.at) }
 {
@@ -82,7 +83,7 @@ fn leave(image: &Image, frame: &mut Frame)
 
 /// The frame moves as its instruction says.
 fn advance(image: &Image, given: Given, frame: &mut Frame)
-    requires rising { AreRising image.now }
+    requires whole { IsWhole image.now }
     requires runs { CanTurnFrame image.now (turn.Moves given) frame.old }
     ensures { frame.new ≡ frame_stepped image.now given frame.old }
 {
@@ -102,7 +103,7 @@ fn catch_at(exception: Name, at: u32, frame: &mut Frame)
 }
 
 fn turn_frame(image: &Image, turn: Turn, frame: &mut Frame)
-    requires rising { AreRising image.now }
+    requires whole { IsWhole image.now }
     requires can { CanTurnFrame image.now turn frame.old }
     ensures { level.Code frame.new ∷ [] ≡ turned image.now turn (level.Code frame.old ∷ []) }
 {
@@ -118,7 +119,7 @@ fn turn_frame(image: &Image, turn: Turn, frame: &mut Frame)
 }
 
 fn turn_level(image: &Image, turn: Turn, level: &mut Level)
-    requires rising { AreRising image.now }
+    requires whole { IsWhole image.now }
     requires can { CanTurn image.now turn (level.old ∷ []) }
     ensures { level.new ∷ [] ≡ turned image.now turn (level.old ∷ []) }
 {
@@ -134,7 +135,7 @@ fn turn_level(image: &Image, turn: Turn, level: &mut Level)
 
 /// Changes the top level, if there is one. It takes no memory.
 pub fn turn_top(image: &Image, turn: Turn, levels: &mut Vec<Level>)
-    requires rising { AreRising image.now }
+    requires whole { IsWhole image.now }
     requires can { CanTurn image.now turn (reverse levels.old.items) }
     ensures levels { reverse levels.new.items ≡ turned image.now turn (reverse levels.old.items) }
     ensures len { vec_len levels.new ≡ vec_len levels.old }

@@ -2,6 +2,6 @@ use Rattle.step_complete.proofs.turns.enter.Goals as goal
 
 pub answer-requires : goal.answer-requires
 answer-requires c = record {
-  rising = c.requires.rising;
+  whole = c.requires.whole;
   takes = c.requires.takes c.in_default.not-Lock;
 }
