@@ -1,6 +1,7 @@
 -- A right request that isn't served waits for a lock, for a thread, or for a class.
 use Rattle.std.proofs.Common.{Bool, List, None, Option, Some, [], ap, arith, if◌then◌else◌, length, nat_lt, not, refl, slice_get, subst, suc, true, zero, ℕ, ◌<◌, ◌∙◌, ◌∷◌, ◌≡◌}
 use Rattle.std.proofs.lemmas.Bool.Decides.{nat_tests}
+use Rattle.std.proofs.lemmas.Option.{slice_get_within}
 use Rattle.std.specs.Prelude.{is_none}
 use Rattle.jvm_base.specs.Words.{from}
 use Rattle.jvm_base.specs.declared.name.Name.{Name}
@@ -31,9 +32,11 @@ use Rattle.machine_soundness.specs.Asks.{Asks, IsArray}
 use Rattle.machine_soundness.specs.Bodies.{all_suit, kind_fits, there_in}
 use Rattle.machine_soundness.specs.Laws.{MayWait, RefusedLaw}
 
+-- what is there isn't missing
 some-none : {A : Type 0} (x : A) → Some x ≡ None → ⊥
 some-none x e = cc
 
+-- where values suit types, each place of a type has a value
 suit-some : (image : Program) (there : Name → Bool) (i : ℕ) (t : FlowType) (vs : List Value) (ts : List FlowType) → all_suit image there vs ts ≡ true → slice_get ts i ≡ Some t → (v : Value) × (slice_get vs i ≡ Some v)
 suit-some image there i t [] [] h e = absurd cc
 suit-some image there zero t (v ∷ vs) (s ∷ ts) h e = (v, refl)
@@ -41,12 +44,8 @@ suit-some image there (suc i) t (v ∷ vs) (s ∷ ts) h e = suit-some image ther
 suit-some image there i t [] (s ∷ ts) h e = absurd cc
 suit-some image there i t (v ∷ vs) [] h e = absurd cc
 
-below-of : (vs : List Value) (i : ℕ) (v : Value) → slice_get vs i ≡ Some v → i < length vs
-below-of [] i v e = absurd cc
-below-of (x ∷ xs) zero v e = omega arith
-below-of (x ∷ xs) (suc i) v e = let k : i < length xs = below-of xs i v e in omega arith
-
 module _ (image : Program) (classes : Classes image) (m : State) (c : Choice) (fit : BodiesFit image (there_in m.heap) m.heap) where
+  -- an object that is there has a body
   body-there : (n : Name) → there_in m.heap n ≡ true → (b : ObjectBody) × (body_at m.heap n ≡ Some b)
   body-there n h = by_body (body_at m.heap n) refl h
     where
@@ -54,6 +53,7 @@ module _ (image : Program) (classes : Classes image) (m : State) (c : Choice) (f
       by_body None e h = absurd cc
       by_body (Some b) e h = (b, e)
 
+  -- a right read of a field is served
   get-served : (n : Name) (i : ℕ) (ts : List FlowType) → Asks image (there_in m.heap) (Get n i) ts → get n i (body_at m.heap n) ≡ None → ⊥
   get-served n i ts (t, x, q) h =
       let (b, u) = body-there n x.is_here in
@@ -63,22 +63,25 @@ module _ (image : Program) (classes : Classes image) (m : State) (c : Choice) (f
       let g2 : from None (λ v. Some (reading (FieldOf n i) (One v) (Some v))) (Some v) ≡ None = subst (λ z. from None (λ v. Some (reading (FieldOf n i) (One v) (Some v))) z ≡ None) w g in
       some-none _ g2
 
+  -- a right write of a field is served
   put-served : (n : Name) (i : ℕ) (v : Value) (ts : List FlowType) → Asks image (there_in m.heap) (Put n i v) ts → put n i v (body_at m.heap n) ≡ None → ⊥
   put-served n i v ts (t, x, z, q) h =
       let (b, u) = body-there n x.is_here in
       let (vs, p, s) = fields-of image (there_in m.heap) n b x.kind (fit n b u) in
       let (y, w) = suit-some image (there_in m.heap) i t vs (slots_of image n) s x.slot in
-      let l : i < length vs = below-of vs i y w in
+      let l : i < length vs = slice_get_within vs i y w in
       let r : nat_lt i (length vs) ≡ true = grind (arith, nat_tests, l) in
       let g : put n i v (Some (Fields vs)) ≡ None = subst (λ z. put n i v z ≡ None) (u ∙ ap Some p) h in
       let g2 : (if true then Some (changing (SetsField n i v ∷ []) None) else None) ≡ None = subst (λ z. (if z then Some (changing (SetsField n i v ∷ []) None) else None) ≡ None) r g in
       some-none _ g2
 
+  -- an array that is there has elements
   array-there : (n : Name) (a : ArrayInfo) → IsArray image (there_in m.heap) n a → (vs : List Value) × (body_at m.heap n ≡ Some (Array vs))
   array-there n a x =
       let (b, u) = body-there n x.is_here in
       let (vs, p, s) = array-body image (there_in m.heap) n a b x.array (fit n b u) in (vs, u ∙ ap Some p)
 
+  -- a StringBuffer that is there has a text
   text-there : (n : Name) → there_in m.heap n ≡ true → n.class ≡ string_buffer → (us : List ℕ) × (body_at m.heap n ≡ Some (Text us))
   text-there n x e =
       let (b, u) = body-there n x in
@@ -89,6 +92,7 @@ module _ (image : Program) (classes : Classes image) (m : State) (c : Choice) (f
       by_body (Fields vs) u h = absurd cc
       by_body (Array vs) u h = absurd cc
 
+  -- a call on a StringBuffer with a text is served
   buffer-some : (n : Name) (k : ℕ) (us ts : List ℕ) → n.class ≡ string_buffer → buffer c.name n k us (Some (Text ts)) ≡ None → ⊥
   buffer-some n k us ts e h = some-none _ (subst (λ z. (if z then Some (buffer_by c.name n k us ts) else None) ≡ None) (ap is_buffer e) h)
 
@@ -117,5 +121,6 @@ module _ (image : Program) (classes : Classes image) (m : State) (c : Choice) (f
   refused-waits t (Buffer n k us) ts (x, e, q) h = let (us2, w) = text-there n x e in absurd (buffer-some n k us us2 e (subst (λ z. buffer c.name n k us z ≡ None) w h))
   refused-waits t (Print us) ts a h = absurd (some-none _ h)
 
+-- of a sound machine
 pub refused : RefusedLaw
 refused image types accepted m c r ts s a e = refused-waits image accepted.classes m c s.bodies c.thread r ts a e

@@ -13,16 +13,19 @@ use Rattle.flow_types.proofs.ListLaws.{and_both, and_parts}
 use Rattle.flow_types.specs.declared.flow_type.FlowType.{FlowType}
 use Rattle.frame_soundness.proofs.GrowLaws.{Grows, frame-grows, value-grows}
 use Rattle.frame_soundness.specs.AcceptedProgram.{Types}
-use Rattle.machine_soundness.specs.Bodies.{all_suit}
+use Rattle.machine_soundness.specs.Bodies.{all_suit, suits}
 use Rattle.machine_soundness.specs.Levels.{LevelsFit, Lower, PhaseFits}
 
 module _ (image : Program) (there more : Name → Bool) (g : Grows there more) where
-  -- so do values in places
+  -- a value in a place
+  pub suit-one : (v : Value) (t : FlowType) → suits image there v t ≡ true → suits image more v t ≡ true
+  suit-one v t h = let (x, y) = and_parts _ _ h in and_both _ _ (value-grows there more v g x) y
+
+  -- values in places, one by one
   pub suit-grows : (vs : List Value) (ts : List FlowType) → all_suit image there vs ts ≡ true → all_suit image more vs ts ≡ true
   suit-grows [] [] h = refl
   suit-grows (v ∷ vs) (t ∷ ts) h =
-      let (p, q) = and_parts _ _ h in let (x, y) = and_parts _ _ p in
-      and_both _ _ (and_both _ _ (value-grows there more v g x) y) (suit-grows vs ts q)
+      let (p, q) = and_parts _ _ h in and_both _ _ (suit-one v t p) (suit-grows vs ts q)
   suit-grows [] (t ∷ ts) h = absurd cc
   suit-grows (v ∷ vs) [] h = absurd cc
 

@@ -1,5 +1,6 @@
 -- The state after a step's changes: all but the thread that stepped.
-use Rattle.std.proofs.Common.{Bool, List, None, Some, [], ap, cond, false, if◌then◌else◌, inl, inr, length, not, refl, slice_get, slice_set, subst, suc, sym, true, zero, ℕ, ◌++◌, ◌∙◌, ◌∷◌, ◌≡◌, ◌⊎◌}
+use Rattle.std.proofs.Common.{Bool, List, None, Some, [], ap, cond, false, if◌then◌else◌, inl, inr, length, not, refl, slice_get, slice_set, subst, suc, sym, true, zero, ℕ, ◌++◌, ◌∙◌, ◌∷◌, ◌≡◌, ◌≢◌, ◌⊎◌}
+use Rattle.std.proofs.lemmas.List.{length-set}
 use Rattle.std.specs.Prelude.{filter}
 use Rattle.jvm_base.proofs.NameLaws.{exact_names, name_eq-true}
 use Rattle.jvm_base.specs.Maps.{find, put}
@@ -8,7 +9,7 @@ use Rattle.jvm_base.specs.declared.frame.Level.{Level}
 use Rattle.jvm_base.specs.declared.name.Name.{Name}
 use Rattle.program_image.specs.Program.{Program}
 use Rattle.machine_state.proofs.MapLaws.{find-put, find-where_key}
-use Rattle.machine_state.proofs.NameTests.{names_total, some_is}
+use Rattle.machine_state.proofs.NameTests.{names_total, same_or, set_other, set_same, some_is}
 use Rattle.machine_state.specs.Changes.{Becomes, Change, Freed, Made, Moved, MovedAll, Owned, SetsContent, SetsElement, SetsField, Sleeps, Started, altered, change, changed, new_thread, waiter, with_content, with_element, with_field, without_owner}
 use Rattle.machine_state.specs.State.{Owners, State, owner_at}
 use Rattle.machine_state.specs.Step.{Taken, after, moved_on}
@@ -33,40 +34,42 @@ change-heap (SetsElement n i v) m l e = ap (λ h. altered h n (with_element i v)
 change-heap (SetsContent n us) m l e = ap (λ h. altered h n (with_content us)) e
 change-heap _ m l e = e
 
+-- so after changes one after the other
 pub changes-heap : (cs : List Change) (m l : State) → m.heap ≡ l.heap → (changed cs m).heap ≡ (changed cs l).heap
 changes-heap [] m l e = e
 changes-heap (c ∷ cs) m l e = changes-heap cs (change c m) (change c l) (change-heap c m l e)
 
 -- ---- threads
 
+-- an item of a list with one more is of the list, or is that one
 get-append : {A : Type 0} (xs : List A) (x y : A) (i : ℕ) → slice_get (xs ++ x ∷ []) i ≡ Some y → (slice_get xs i ≡ Some y) ⊎ (y ≡ x)
 get-append [] x y zero h = inr (sym (some_is h))
 get-append [] x y (suc i) h = absurd cc
 get-append (z ∷ xs) x y zero h = inl h
 get-append (z ∷ xs) x y (suc i) h = get-append xs x y i h
 
+-- an item of a list in which one was set is of the list, or is that one
 get-set : {A : Type 0} (xs : List A) (i j : ℕ) (x y : A) → slice_get (slice_set xs i x) j ≡ Some y → (slice_get xs j ≡ Some y) ⊎ (y ≡ x)
-get-set [] i j x y h = inl h
-get-set (z ∷ xs) zero zero x y h = inr (sym (some_is h))
-get-set (z ∷ xs) zero (suc j) x y h = inl h
-get-set (z ∷ xs) (suc i) zero x y h = inl h
-get-set (z ∷ xs) (suc i) (suc j) x y h = get-set xs i j x y h
-
-set-length : {A : Type 0} (xs : List A) (i : ℕ) (x : A) → length (slice_set xs i x) ≡ length xs
-set-length [] i x = refl
-set-length (z ∷ xs) zero x = refl
-set-length (z ∷ xs) (suc i) x = ap suc (set-length xs i x)
+get-set xs i j x y h = by_place (same_or j i)
+  where
+    by_place : (j ≡ i) ⊎ (j ≢ i) → (slice_get xs j ≡ Some y) ⊎ (y ≡ x)
+    by_place (inl e) = inr (set_same xs i x y (subst (λ z. slice_get (slice_set xs i x) z ≡ Some y) e h))
+    by_place (inr ne) = inl (sym (set_other xs i j x ne) ∙ h)
 
 module _ (image : Program) (types : Types) (more : Name → Bool) where
+  -- each thread fits
   abbrev ThreadsFit : List ThreadState → Type 0
   ThreadsFit ths = (t : ℕ) (th : ThreadState) → slice_get ths t ≡ Some th → ThreadFits image types more th
 
+  -- each lock that is owned is there
   abbrev OwnersFit : Owners → Type 0
   OwnersFit os = (n : Name) (o : MonitorState) → owner_at os n ≡ Some o → more n ≡ true
 
+  -- a thread before its first step fits
   new-fits : (n : Name) → IsThread image more n → ThreadFits image types more (new_thread n)
   new-fits n h = record { object = h; levels = refl }
 
+  -- threads fit after a change that fits
   threads-fit : (c : Change) (m : State) → ChangeFits image more c → ThreadsFit m.threads → ThreadsFit (change c m).threads
   threads-fit (Started n) m h fit = λ t th e. by_case t th (get-append m.threads (new_thread n) th t e)
     where
@@ -75,6 +78,7 @@ module _ (image : Program) (types : Types) (more : Name → Bool) where
       by_case t th (inr p) = subst (λ x. ThreadFits image types more x) (sym p) (new-fits n h)
   threads-fit _ m h fit = fit
 
+  -- a lock is owned
   owners-put : (os : Owners) (n : Name) (o : MonitorState) → more n ≡ true → OwnersFit os → OwnersFit (put name_cmp n o os)
   owners-put os n o h fit q x e = by_test (name_eq q n) refl (sym (find-put name_cmp names_total q n o os) ∙ e)
     where
@@ -82,6 +86,7 @@ module _ (image : Program) (types : Types) (more : Name → Bool) where
       by_test true u e = subst (λ z. more z ≡ true) (sym (name_eq-true q n u)) h
       by_test false u e = fit q x e
 
+  -- a lock is free
   owners-without : (os : Owners) (n : Name) → OwnersFit os → OwnersFit (without_owner n os)
   owners-without os n fit q x e = by_test (not (name_eq n q)) (sym (find-where_key name_cmp (λ y. not (name_eq n y)) q (λ y r. ap (λ z. not (name_eq n z)) (sym (exact_names q y r))) os) ∙ e)
     where
@@ -89,15 +94,18 @@ module _ (image : Program) (types : Types) (more : Name → Bool) where
       by_test true e = fit q x e
       by_test false e = absurd cc
 
+  -- locks are there after a change that fits
   owners-fit : (c : Change) (m : State) → ChangeFits image more c → OwnersFit m.monitors → OwnersFit (change c m).monitors
   owners-fit (Owned n o) m h fit = owners-put m.monitors n o h fit
   owners-fit (Freed n) m h fit = owners-without m.monitors n fit
   owners-fit _ m h fit = fit
 
+  -- a waiter comes
   waiting-append : (ws : List Waiter) (w : Waiter) → more w.lock ≡ true → AreThere more ws → AreThere more (ws ++ w ∷ [])
   waiting-append [] w h k = (h, tt)
   waiting-append (x ∷ ws) w h k = (k.0, waiting-append ws w h k.1)
 
+  -- waiters go
   waiting-filter : (p : Waiter → Bool) (ws : List Waiter) → AreThere more ws → AreThere more (filter p ws)
   waiting-filter p [] k = tt
   waiting-filter p (w ∷ ws) k = by_test (p w) (waiting-filter p ws k.1)
@@ -106,14 +114,16 @@ module _ (image : Program) (types : Types) (more : Name → Bool) where
       by_test true h = (k.0, h)
       by_test false h = h
 
+  -- the locks of waiters are there after a change that fits
   waiting-fit : (c : Change) (m : State) → ChangeFits image more c → AreThere more m.waiting → AreThere more (change c m).waiting
   waiting-fit (Sleeps n t) m h fit = waiting-append m.waiting (waiter n t) h fit
   waiting-fit (Moved n t) m h fit = waiting-filter _ m.waiting fit
   waiting-fit (MovedAll n) m h fit = waiting-filter _ m.waiting fit
   waiting-fit _ m h fit = fit
 
+  -- no class comes or goes
   class-count : (c : Change) (m : State) → length (change c m).classes ≡ length m.classes
-  class-count (Becomes k s) m = set-length m.classes k s
+  class-count (Becomes k s) m = length-set m.classes k s
   class-count _ m = refl
 
   -- what changes leave fitting, beside the bodies
@@ -123,6 +133,7 @@ module _ (image : Program) (types : Types) (more : Name → Bool) where
     pub waiting : AreThere more m.waiting
     pub classes : length m.classes ≡ length image.classes
 
+  -- so after changes that fit
   pub rest-fits : (cs : List Change) (m : State) → ChangesFit image more cs → RestFits m → RestFits (changed cs m)
   rest-fits [] m h r = r
   rest-fits (c ∷ cs) m h r = rest-fits cs (change c m) h.1 (record {
@@ -133,6 +144,7 @@ module _ (image : Program) (types : Types) (more : Name → Bool) where
   })
 
 module _ (image : Program) (types : Types) where
+  -- a thread by its mode, as objects are made
   pub mode-grows : (there more : Name → Bool) → Grows there more → (mode : Mode) (ls : List Level) → ModeFits image types there mode ls → ModeFits image types more mode ls
   mode-grows there more g Entry ls h = h
   mode-grows there more g Running ls h = levels-grow image there more g types None ls h
@@ -140,12 +152,15 @@ module _ (image : Program) (types : Types) where
   mode-grows there more g (Waiting n k) ls h = (g n h.0, levels-grow image there more g types None ls h.1)
   mode-grows there more g Ended ls h = levels-grow image there more g types None ls h
 
+  -- its Thread object
   object-grows : (there more : Name → Bool) → Grows there more → (n : Name) → IsThread image there n → IsThread image more n
   object-grows there more g n h = record { is_here = g n h.is_here; fits = h.fits }
 
+  -- a thread
   thread-grows : (there more : Name → Bool) → Grows there more → (th : ThreadState) → ThreadFits image types there th → ThreadFits image types more th
   thread-grows there more g th h = record { object = object-grows there more g th.object h.object; levels = mode-grows there more g th.mode th.levels h.levels }
 
+  -- the locks of waiters
   waiting-grows : (there more : Name → Bool) → Grows there more → (ws : List Waiter) → AreThere there ws → AreThere more ws
   waiting-grows there more g [] h = tt
   waiting-grows there more g (w ∷ ws) h = (g w.lock h.0, waiting-grows there more g ws h.1)
@@ -155,6 +170,7 @@ module _ (image : Program) (types : Types) where
     pub changes : ChangesFit image (there_in (changed k.deed.changes m).heap) k.deed.changes
     pub mode : ModeFits image types (there_in (changed k.deed.changes m).heap) k.stand.0 k.stand.1
 
+  -- so the machine is sound after it
   pub taken-sound : (m : State) (t : ℕ) (th : ThreadState) (k : Taken) → Sound image types m → slice_get m.threads t ≡ Some th → TakenFits m k → Sound image types (moved_on m t th k)
   unfolding moved_on
   taken-sound m t th k s e f =
