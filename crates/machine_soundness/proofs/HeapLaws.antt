@@ -25,7 +25,7 @@ use Rattle.flow_types.specs.declared.flow_type.FlowType.{FlowType}
 use Rattle.flow_types.specs.declared.flow_type.FlowType.TheVariants as flow
 use Rattle.instruction_table.specs.ClassTypes.{array_at, class_type, desc_type, element_type, ground_type}
 use Rattle.machine_state.proofs.MapLaws.{find-put, find-replace}
-use Rattle.machine_state.proofs.NameTests.{name_itself, names_total}
+use Rattle.machine_state.proofs.NameTests.{name_itself, names_total, some_is}
 use Rattle.machine_state.specs.Changes.{Becomes, Change, Freed, Lost, Made, Moved, MovedAll, Owned, Printed, SetsContent, SetsElement, SetsField, Sleeps, Started, altered, change, changed, with_content, with_element, with_field}
 use Rattle.machine_state.specs.Classes.{element_zero}
 use Rattle.machine_state.specs.State.{Heap, State, body_at}
@@ -37,6 +37,14 @@ use Rattle.machine_soundness.specs.Bodies.{all_suit, body_fits, each_suits, kind
 use Rattle.machine_soundness.specs.Levels.{IsThread}
 
 -- ---- look-ups
+
+-- what holds of each entry still does where one is put of which it holds
+pub put-holds : {X : Type 0} (P : Name → X → Type 0) (k : Name) (x : X) (es : List (Name × X)) → P k x → ((q : Name) (y : X) → find name_cmp q es ≡ Some y → P q y) → (q : Name) (y : X) → find name_cmp q (put name_cmp k x es) ≡ Some y → P q y
+put-holds P k x es h all q y e = by_test (name_eq q k) refl (sym (find-put name_cmp names_total q k x es) ∙ e)
+  where
+    by_test : (t : Bool) → name_eq q k ≡ t → cond t (Some x) (find name_cmp q es) ≡ Some y → P q y
+    by_test false u e = all q y e
+    by_test true u e = subst (λ z. P z y) (sym (name_eq-true q k u)) (subst (P k) (some_is e) h)
 
 -- what is there stays where an object is put
 pub there-put : (heap : Heap) (k q : Name) (b : ObjectBody) → there_in heap q ≡ true → there_in (put name_cmp k b heap) q ≡ true
@@ -91,7 +99,7 @@ ChangeFits image more (Sleeps n t) = more n ≡ true
 ChangeFits image more (Started n) = IsThread image more n
 ChangeFits image more _ = Unit {0}
 
--- so do changes, one by one
+-- so it does for changes, one by one
 abbrev pub ChangesFit : Program → (Name → Bool) → List Change → Type 0
 ChangesFit image more [] = Unit {0}
 ChangesFit image more (c ∷ cs) = ChangeFits image more c × ChangesFit image more cs
@@ -135,14 +143,6 @@ module _ (image : Program) (more : Name → Bool) where
   content-kept n us o text (Fields vs) k = k
   content-kept n us o text (Array vs) k = k
 
-  -- bodies fit where one that fits is put
-  put-kept : (heap : Heap) (k : Name) (x : ObjectBody) → body_fits image more k x ≡ true → BodiesFit image more heap → BodiesFit image more (put name_cmp k x heap)
-  put-kept heap k x h fit q b e = by_test (name_eq q k) refl (sym (find-put name_cmp names_total q k x heap) ∙ e)
-    where
-      by_test : (t : Bool) → name_eq q k ≡ t → cond t (Some x) (find name_cmp q heap) ≡ Some b → body_fits image more q b ≡ true
-      by_test false u e = fit q b e
-      by_test true u e = let p : x ≡ b = cc in subst (λ z. body_fits image more z b ≡ true) (sym (name_eq-true q k u)) (subst (λ z. body_fits image more k z ≡ true) p h)
-
   -- bodies fit where one is altered and still fits
   altered-kept : (heap : Heap) (n : Name) (f : ObjectBody → ObjectBody) → ((b : ObjectBody) → body_fits image more n b ≡ true → body_fits image more n (f b) ≡ true) → BodiesFit image more heap → BodiesFit image more (altered heap n f)
   altered-kept heap n f h fit q b e = by_body (body_at heap n) refl e
@@ -157,7 +157,7 @@ module _ (image : Program) (more : Name → Bool) where
 
   -- bodies fit after a change that fits
   change-keeps : (c : Change) (m : State) → ChangeFits image more c → BodiesFit image more m.heap → BodiesFit image more (change c m).heap
-  change-keeps (Made n b) m h fit = put-kept m.heap n b h fit
+  change-keeps (Made n b) m h fit = put-holds (λ q x. body_fits image more q x ≡ true) n b m.heap h fit
   change-keeps (SetsField n i v) m (t, e, h) fit = altered-kept m.heap n (with_field i v) (λ b k. field-kept n i v t e h (array_at image n.class) (is_text n.class) b k) fit
   change-keeps (SetsElement n i v) m h fit = altered-kept m.heap n (with_element i v) (λ b k. element-kept n i v (array_at image n.class) (is_text n.class) b h k) fit
   change-keeps (SetsContent n us) m h fit = altered-kept m.heap n (with_content us) (λ b k. content-kept n us (array_at image n.class) (is_text n.class) b k) fit
@@ -243,7 +243,7 @@ zeros-of image there (f ∷ fs) = and_both _ _ (zero-suits image there f.desc) (
 pub zeros-suit : (image : Program) (there : Name → Bool) (c : ℕ) → all_suit image there (zeros_of image c) (field_types image c) ≡ true
 zeros-suit image there c = zeros-of image there (instance_fields image c)
 
--- what an element of a new array is suits the array's elements
+-- what an element of a new array holds is of the type of its elements
 pub element-zero : (image : Program) (there : Name → Bool) (c : ℕ) (a : ArrayInfo) → array_at image c ≡ Some a → suits image there (element_zero image c) (component_type image a) ≡ true
 element-zero image there c a e = rw e (by_test (a.dims == 1))
   where

@@ -1,10 +1,9 @@
 -- The start state is sound.
-use Rattle.std.proofs.Common.{Bool, List, None, Option, Some, [], ap, arith, cond, false, if◌then◌else◌, length, map, refl, slice_get, subst, suc, sym, true, zero, ℕ, ◌++◌, ◌+◌, ◌<◌, ◌==◌, ◌∙◌, ◌∷◌, ◌≡◌, ◌≤◌}
+use Rattle.std.proofs.Common.{Bool, List, None, Option, Some, [], ap, arith, false, if◌then◌else◌, length, map, refl, slice_get, subst, suc, sym, true, zero, ℕ, ◌++◌, ◌+◌, ◌<◌, ◌==◌, ◌∙◌, ◌∷◌, ◌≡◌, ◌≤◌}
 use Rattle.std.proofs.lemmas.Bool.{eqb-true}
 use Rattle.std.specs.Prelude.{filter}
-use Rattle.jvm_base.proofs.NameLaws.{name_eq-true}
-use Rattle.jvm_base.specs.Maps.{find, put}
-use Rattle.jvm_base.specs.Names.{name_cmp, name_eq}
+use Rattle.jvm_base.specs.Maps.{put}
+use Rattle.jvm_base.specs.Names.{name_cmp}
 use Rattle.jvm_base.specs.Words.{from}
 use Rattle.jvm_base.specs.declared.name.Name.{Name}
 use Rattle.jvm_base.specs.declared.value.ObjectBody.{ObjectBody}
@@ -20,8 +19,7 @@ use Rattle.flow_types.proofs.ListLaws.{and_both}
 use Rattle.flow_types.specs.declared.flow_type.FlowType.{FlowType}
 use Rattle.flow_types.specs.declared.flow_type.FlowType.TheVariants as flow
 use Rattle.instruction_table.specs.ClassTypes.{class_type, desc_type}
-use Rattle.machine_state.proofs.MapLaws.{find-put}
-use Rattle.machine_state.proofs.NameTests.{names_total, some_is}
+use Rattle.machine_state.proofs.NameTests.{some_is}
 use Rattle.machine_state.specs.BootClasses.{print_stream, system, thread}
 use Rattle.machine_state.specs.Changes.{new_thread}
 use Rattle.machine_state.specs.PreMade.{arguments, first_statics, holder, holders, main_thread, pre_made, stream, text_name, text_references, texts}
@@ -33,34 +31,27 @@ use Rattle.frame_soundness.specs.Holding.{component_type, field_types, has_field
 use Rattle.frame_soundness.specs.Natives.{string_type, thread_type}
 use Rattle.frame_soundness.specs.Values.{is_there}
 use Rattle.machine_soundness.proofs.ArrayLaws.{from-first}
-use Rattle.machine_soundness.proofs.HeapLaws.{ref-suits, same-fits, there-made, there-put, zero-suits, zeros-suit}
+use Rattle.machine_soundness.proofs.HeapLaws.{put-holds, ref-suits, same-fits, there-made, there-put, zero-suits, zeros-suit}
 use Rattle.machine_soundness.proofs.ServeLaws.{elements-body, fields-body, text-body}
 use Rattle.machine_soundness.specs.Bodies.{all_suit, body_fits, each_suits, suits, there_in}
 use Rattle.machine_soundness.specs.Laws.{SoundStartLaw}
 use Rattle.machine_soundness.specs.Levels.{IsThread, ThreadFits}
 use Rattle.machine_soundness.specs.Sound.{Premade, a_holder, a_literal, the_arguments}
 
--- a property of entries is one of the heap that they make
+-- each entry has a property
 abbrev AllOf : (Name → ObjectBody → Type 0) → List (Name × ObjectBody) → Type 0
 AllOf P [] = Unit {0}
 AllOf P (e ∷ es) = P e.0 e.1 × AllOf P es
 
--- of entries after others
+-- so have entries after others
 all-append : (P : Name → ObjectBody → Type 0) (xs ys : List (Name × ObjectBody)) → AllOf P xs → AllOf P ys → AllOf P (xs ++ ys)
 all-append P [] ys h k = k
 all-append P (x ∷ xs) ys h k = (h.0, all-append P xs ys h.1 k)
 
--- so it is one of the heap
+-- then each object has it of the heap that they make
 all-put : (P : Name → ObjectBody → Type 0) (es : List (Name × ObjectBody)) (heap : Heap) → AllOf P es → ((n : Name) (b : ObjectBody) → body_at heap n ≡ Some b → P n b) → (n : Name) (b : ObjectBody) → body_at (all_put es heap) n ≡ Some b → P n b
 all-put P [] heap h k n b e = k n b e
-all-put P (x ∷ es) heap h k n b e = all-put P es (put name_cmp x.0 x.1 heap) h.1 one n b e
-  where
-    one : (n : Name) (b : ObjectBody) → body_at (put name_cmp x.0 x.1 heap) n ≡ Some b → P n b
-    one n b e = by_test (name_eq n x.0) refl (sym (find-put name_cmp names_total n x.0 x.1 heap) ∙ e)
-      where
-        by_test : (t : Bool) → name_eq n x.0 ≡ t → cond t (Some x.1) (find name_cmp n heap) ≡ Some b → P n b
-        by_test true u e = let p : x.1 ≡ b = cc in subst (λ z. P z b) (sym (name_eq-true n x.0 u)) (subst (λ z. P x.0 z) p h.0)
-        by_test false u e = k n b e
+all-put P (x ∷ es) heap h k n b e = all-put P es (put name_cmp x.0 x.1 heap) h.1 (put-holds P x.0 x.1 heap h.0 k) n b e
 
 -- no entry takes an object away
 put-grows : (es : List (Name × ObjectBody)) (heap : Heap) (n : Name) → there_in heap n ≡ true → there_in (all_put es heap) n ≡ true
@@ -76,7 +67,7 @@ all-there : (es : List (Name × ObjectBody)) (heap : Heap) → AllOf (IsThere (t
 all-there [] heap = tt
 all-there (x ∷ es) heap = (put-grows es (put name_cmp x.0 x.1 heap) x.0 (there-made heap x.0 x.1), all-there es (put name_cmp x.0 x.1 heap))
 
--- of the parts of a list of entries
+-- so have the parts of a list of entries
 all-split : (P : Name → ObjectBody → Type 0) (xs ys : List (Name × ObjectBody)) → AllOf P (xs ++ ys) → AllOf P xs × AllOf P ys
 all-split P [] ys h = (tt, h)
 all-split P (x ∷ xs) ys h = let (p, q) = all-split P xs ys h.1 in ((h.0, p), q)

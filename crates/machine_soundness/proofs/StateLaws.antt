@@ -2,14 +2,14 @@
 use Rattle.std.proofs.Common.{Bool, List, None, Some, [], ap, cond, false, if◌then◌else◌, inl, inr, length, not, refl, slice_get, slice_set, subst, suc, sym, true, zero, ℕ, ◌++◌, ◌∙◌, ◌∷◌, ◌≡◌, ◌≢◌, ◌⊎◌}
 use Rattle.std.proofs.lemmas.List.{length-set}
 use Rattle.std.specs.Prelude.{filter}
-use Rattle.jvm_base.proofs.NameLaws.{exact_names, name_eq-true}
+use Rattle.jvm_base.proofs.NameLaws.{exact_names}
 use Rattle.jvm_base.specs.Maps.{find, put}
 use Rattle.jvm_base.specs.Names.{name_cmp, name_eq}
 use Rattle.jvm_base.specs.declared.frame.Level.{Level}
 use Rattle.jvm_base.specs.declared.name.Name.{Name}
 use Rattle.program_image.specs.Program.{Program}
-use Rattle.machine_state.proofs.MapLaws.{find-put, find-where_key}
-use Rattle.machine_state.proofs.NameTests.{names_total, same_or, set_other, set_same, some_is}
+use Rattle.machine_state.proofs.MapLaws.{find-where_key}
+use Rattle.machine_state.proofs.NameTests.{same_or, set_other, set_same, some_is}
 use Rattle.machine_state.specs.Changes.{Becomes, Change, Freed, Made, Moved, MovedAll, Owned, SetsContent, SetsElement, SetsField, Sleeps, Started, altered, change, changed, new_thread, waiter, with_content, with_element, with_field, without_owner}
 use Rattle.machine_state.specs.State.{Owners, State, owner_at}
 use Rattle.machine_state.specs.Step.{Taken, after, moved_on}
@@ -20,7 +20,7 @@ use Rattle.machine_state.specs.declared.state.ThreadState.{ThreadState}
 use Rattle.machine_state.specs.declared.state.Waiter.{Waiter}
 use Rattle.frame_soundness.proofs.GrowLaws.{Grows}
 use Rattle.frame_soundness.specs.AcceptedProgram.{Types}
-use Rattle.machine_soundness.proofs.HeapLaws.{BodiesFit, ChangeFits, ChangesFit, bodies-grow, changes-grow, changes-keep}
+use Rattle.machine_soundness.proofs.HeapLaws.{BodiesFit, ChangeFits, ChangesFit, bodies-grow, changes-grow, changes-keep, put-holds}
 use Rattle.machine_soundness.proofs.LevelGrowth.{levels-grow}
 use Rattle.machine_soundness.specs.Bodies.{there_in}
 use Rattle.machine_soundness.specs.Levels.{IsThread, ModeFits, ThreadFits}
@@ -78,14 +78,6 @@ module _ (image : Program) (types : Types) (more : Name → Bool) where
       by_case t th (inr p) = subst (λ x. ThreadFits image types more x) (sym p) (new-fits n h)
   threads-fit _ m h fit = fit
 
-  -- a lock is owned
-  owners-put : (os : Owners) (n : Name) (o : MonitorState) → more n ≡ true → OwnersFit os → OwnersFit (put name_cmp n o os)
-  owners-put os n o h fit q x e = by_test (name_eq q n) refl (sym (find-put name_cmp names_total q n o os) ∙ e)
-    where
-      by_test : (t : Bool) → name_eq q n ≡ t → cond t (Some o) (find name_cmp q os) ≡ Some x → more q ≡ true
-      by_test true u e = subst (λ z. more z ≡ true) (sym (name_eq-true q n u)) h
-      by_test false u e = fit q x e
-
   -- a lock is free
   owners-without : (os : Owners) (n : Name) → OwnersFit os → OwnersFit (without_owner n os)
   owners-without os n fit q x e = by_test (not (name_eq n q)) (sym (find-where_key name_cmp (λ y. not (name_eq n y)) q (λ y r. ap (λ z. not (name_eq n z)) (sym (exact_names q y r))) os) ∙ e)
@@ -96,7 +88,7 @@ module _ (image : Program) (types : Types) (more : Name → Bool) where
 
   -- locks are there after a change that fits
   owners-fit : (c : Change) (m : State) → ChangeFits image more c → OwnersFit m.monitors → OwnersFit (change c m).monitors
-  owners-fit (Owned n o) m h fit = owners-put m.monitors n o h fit
+  owners-fit (Owned n o) m h fit = put-holds (λ q x. more q ≡ true) n o m.monitors h fit
   owners-fit (Freed n) m h fit = owners-without m.monitors n fit
   owners-fit _ m h fit = fit
 
