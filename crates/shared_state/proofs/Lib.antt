@@ -5,3 +5,5 @@ pub mod OnErrs
 pub mod MakingLaws
 pub mod StoredLaws
 pub mod StartLaws
+pub mod MadeNames
+pub mod Orders
