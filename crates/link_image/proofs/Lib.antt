@@ -10,3 +10,4 @@ pub mod Within
 pub mod MainLaw
 pub mod IsImageLaw
 pub mod SizeLaws
+pub mod ItemLaws

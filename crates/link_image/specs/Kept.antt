@@ -1,2 +1,3 @@
 -- What the loops keep: no promise of a public call rests on these.
 pub mod Bases
+pub mod Items

@@ -6,6 +6,7 @@ mod classes;
 mod constants;
 mod fields;
 mod image;
+mod items;
 mod lookup;
 mod methods;
 mod reversed;

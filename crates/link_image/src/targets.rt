@@ -4,14 +4,16 @@ ghost use Rattle.std.specs.Prelude.{◌≡◌, ◌+◌, ◌++◌, ◌<◌, ◌^�
 ghost use Rattle.std.specs.List.{AllByRecursion, flat_map};
 ghost use Rattle.class_names.specs.Classes.{code_of, codes_of};
 ghost use Rattle.link_rules.specs.Numbers.{numbered};
+ghost use Rattle.link_image.specs.Kept.Items.{AreNamed};
 ghost use Rattle.link_image.specs.Methods.{count_methods};
 ghost use Rattle.link_image.specs.Seen.{seen_lookup, IsFit};
 ghost use Rattle.link_image.specs.Sizes.{IsShort, HasShortCode};
 ghost use Rattle.link_image.specs.Targets.{op_target, placing, placed_target, caught, entry_target, method_targets, class_targets, all_targets};
 
-use crate::lookup::{Lookup, class, constant_target, declared_class, field, method};
+use crate::items::{item_class, item_constant, item_field, item_method, item_targets};
+use crate::lookup::{Lookup, declared_class};
 use class_format::{ClassFile, MethodItem};
-use class_names::{class_text, is_array, member};
+use class_names::{class_text, is_array};
 use code_table::{Code, Op, Placed};
 use jvm_base::{List, NoMemory, TableItem};
 use link_rules::{ops, table};
@@ -24,25 +26,28 @@ const ENTRIES: u32 = 65_536;
 /// Targets, each with a method and an address.
 pub(crate) type Targets = List<(u32, u32, Target)>;
 
-/// What an instruction of a class names.
+/// What an instruction of a class names, of whose items this is told.
 fn op_target(
     alloc: Global,
     lookup: &Lookup<'_, '_, '_>,
     file: &ClassFile,
+    told: &[Option<Target>],
     op: &Op,
 ) -> Result<Option<Target>, NoMemory>
-    requires { IsFit lookup.now }
+    requires fit { IsFit lookup.now }
+    requires told { AreNamed (seen_lookup lookup.now) file.now told.now }
     ensures { IfOk result (λ target. target ≡ op_target (seen_lookup lookup.now) file.now op.now) }
 {
-    let pool = file.pool.as_slice();
     match op {
-        Op::Static { item, .. } | Op::Field { item, .. } => Ok(field(lookup, &member(pool, *item))),
-        Op::Invoke { item, .. } => Ok(method(lookup, &member(pool, *item))),
+        Op::Static { item, .. } | Op::Field { item, .. } => {
+            Ok(item_field(lookup, file, told, *item))
+        }
+        Op::Invoke { item, .. } => Ok(item_method(lookup, file, told, *item)),
         Op::New(item)
         | Op::AnewArray(item)
         | Op::Cast { item, .. }
-        | Op::MultiNewArray { item, .. } => class(alloc, lookup, class_text(pool, *item)),
-        Op::Ldc(item) | Op::Ldc2(item) => Ok(constant_target(lookup, file, *item)),
+        | Op::MultiNewArray { item, .. } => item_class(alloc, lookup, file, told, *item),
+        Op::Ldc(item) | Op::Ldc2(item) => Ok(item_constant(lookup, file, told, *item)),
         _ => Ok(None),
     }
 }
@@ -63,14 +68,16 @@ fn add_ops(
     targets: &mut Targets,
     lookup: &Lookup<'_, '_, '_>,
     file: &ClassFile,
+    told: &[Option<Target>],
     method: u32,
     ops: &[Placed],
 ) -> Result<(), NoMemory>
-    requires { IsFit lookup.now }
+    requires fit { IsFit lookup.now }
+    requires told { AreNamed (seen_lookup lookup.now) file.now told.now }
     ensures { OnOk result (targets.new ≡ targets.old ++ flat_map (placed_target (seen_lookup lookup.now) file.now method) ops.now) }
 {
     for placed in ops {
-        let target = op_target(alloc, lookup, file, &placed.op)?;
+        let target = op_target(alloc, lookup, file, told, &placed.op)?;
         add(targets, method, placed.at, target)?;
     }
     Ok(())
@@ -116,16 +123,18 @@ fn add_method(
     targets: &mut Targets,
     lookup: &Lookup<'_, '_, '_>,
     file: &ClassFile,
+    told: &[Option<Target>],
     number: u32,
     method: &MethodItem,
     code: &Option<Code>,
 ) -> Result<(), NoMemory>
     requires fit { IsFit lookup.now }
+    requires told { AreNamed (seen_lookup lookup.now) file.now told.now }
     requires code { code.now ≡ code_of file.now.pool method.now }
     requires short { IsShort method.now.code }
     ensures { OnOk result (targets.new ≡ targets.old ++ method_targets (seen_lookup lookup.now) file.now number method.now) }
 {
-    add_ops(alloc, targets, lookup, file, number, ops(code))?;
+    add_ops(alloc, targets, lookup, file, told, number, ops(code))?;
     add_table(targets, lookup, file, number, table(method))
 }
 
@@ -145,10 +154,13 @@ fn add_class(
     requires few { first + length file.now.methods < 2 ^ 32 }
     ensures { OnOk result (targets.new ≡ targets.old ++ class_targets (seen_lookup lookup.now) first file.now) }
 {
+    let told = item_targets(alloc, lookup, file)?;
+    let told = told.as_slice();
     let methods = file.methods.as_slice();
     let mut number = first;
     for i in 0..methods.len() {
-        add_method(alloc, targets, lookup, file, number, &methods[i], &codes[i])?;
+        let (method, code) = (&methods[i], &codes[i]);
+        add_method(alloc, targets, lookup, file, told, number, method, code)?;
         number += 1;
     }
     Ok(())
