@@ -44,10 +44,10 @@ pub fn number_text(alloc: Global, value: Value) -> Result<Units, NoMemory>
 }
 
 /// A text with another one behind it.
-pub fn joined(alloc: Global, a: &Units, b: &Units) -> Result<Units, NoMemory>
+pub fn joined(alloc: Global, a: &[u16], b: &[u16]) -> Result<Units, NoMemory>
     ensures { IfOk result (λ text. text ≡ a.now ++ b.now) }
 {
-    let mut text = Units::from_slice(alloc, a.as_slice())?;
-    push_all(&mut text, b.as_slice())?;
+    let mut text = Units::from_slice(alloc, a)?;
+    push_all(&mut text, b)?;
     Ok(text)
 }

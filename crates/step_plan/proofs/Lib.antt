@@ -1,0 +1,9 @@
+pub mod Taking
+pub mod DepthLaws
+pub mod Operands
+pub mod Answering
+pub mod Instructions
+pub mod Receiving
+pub mod TextLaws
+pub mod IntrinsicLaws
+pub mod TopLaws
