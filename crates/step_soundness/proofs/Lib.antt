@@ -11,3 +11,4 @@ pub mod IntrinsicPlans
 pub mod BodyPlans
 pub mod ThreadLaws
 pub mod StepLaws
+pub mod WaitLaws

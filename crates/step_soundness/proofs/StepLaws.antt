@@ -130,7 +130,7 @@ module _ (image : Program) (types : Types) (accepted : Accepted image types) (m 
         by_thread (Some th) q e = by_attempt th q (attempt image m c th) refl e
 
 module _ (image : Program) (types : Types) (accepted : Accepted image types) (m : State) (s : Sound image types m) where
-  all-intrinsics : (f : Frame) (t : FrameFits image types (there_in m.heap) f) → IntrinsicsFine image types accepted (there_in m.heap) (λ k b. s.premade (holder k) (a_holder k b)) f t
+  pub all-intrinsics : (f : Frame) (t : FrameFits image types (there_in m.heap) f) → IntrinsicsFine image types accepted (there_in m.heap) (λ k b. s.premade (holder k) (a_holder k b)) f t
   all-intrinsics f t = intrinsics-fine image types accepted (there_in m.heap) (λ k b. s.premade (holder k) (a_holder k b)) f t
 
   -- what serves is right

@@ -3,4 +3,4 @@
 
 mod laws;
 
-pub use laws::{never_stuck, sound_step};
+pub use laws::{blocked_waits, never_stuck, sound_step};
