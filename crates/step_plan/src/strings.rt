@@ -17,7 +17,7 @@ use jvm_base::{Name, NoMemory, Units, Value};
 use machine_state::Request;
 use program_reads::boot;
 use std::alloc::Global;
-use text_objects::joined;
+use text_objects::joined_units;
 
 /// A count as an int: its low 32 bits.
 fn count_value(count: usize) -> Value
@@ -103,7 +103,7 @@ fn behind<T: Texts>(
         return Ok(fault(boot::NULL_POINTER));
     };
     match texts.text(object) {
-        Some(other) => Ok(Next::Needs(Request::MakeText(joined(alloc, units, other)?))),
+        Some(other) => Ok(Next::Needs(Request::MakeText(joined_units(alloc, units, other)?))),
         None => Ok(Next::Wants(object)),
     }
 }

@@ -43,11 +43,18 @@ pub fn number_text(alloc: Global, value: Value) -> Result<Units, NoMemory>
     }
 }
 
-/// A text with another one behind it.
-pub fn joined(alloc: Global, a: &[u16], b: &[u16]) -> Result<Units, NoMemory>
+/// The units of a text with those of another one behind them.
+pub fn joined_units(alloc: Global, a: &[u16], b: &[u16]) -> Result<Units, NoMemory>
     ensures { IfOk result (λ text. text ≡ a.now ++ b.now) }
 {
     let mut text = Units::from_slice(alloc, a)?;
     push_all(&mut text, b)?;
     Ok(text)
+}
+
+/// A text with another one behind it.
+pub fn joined(alloc: Global, a: &Units, b: &Units) -> Result<Units, NoMemory>
+    ensures { IfOk result (λ text. text ≡ a.now ++ b.now) }
+{
+    joined_units(alloc, a.as_slice(), b.as_slice())
 }
