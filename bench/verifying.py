@@ -83,6 +83,18 @@ def handlers(length, count):
     return make
 
 
+def wide_stores(length, stores):
+    """So many locals far apart that are written, and joins behind them that each have all of these."""
+
+    def make(pool):
+        code = b"".join(b"\x03" + struct.pack(">BBH", 196, 54, LIMIT // stores * at) for at in range(stores))
+        step = b"\x1a" + branch(0x99, 3)
+        code += step * ((length - 3 - len(code)) // 4)
+        return code + b"\xb1", 2, LIMIT, ()
+
+    return make
+
+
 def deep_stack(length):
     """A stack that grows to the end."""
 
@@ -112,13 +124,16 @@ KINDS = (
     ("ordinary methods", [lambda n=n: [in_file(loop_code, n)] for n in (70, 700, 7000)]),
     ("one method of sums", [lambda n=n: [in_file(straight(n), 1)] for n in (655, 6553, LIMIT)]),
     ("the same, 255 locals", [lambda n=n: [in_file(straight(n, 255), 1)] for n in (655, 6553, LIMIT)]),
-    ("the same, 65,535 locals", [lambda n=n: [in_file(straight(n, LIMIT), 1)] for n in (65, 655)]),
+    ("the same, 65,535 locals", [lambda n=n: [in_file(straight(n, LIMIT), 1)] for n in (655, 6553, LIMIT)]),
     ("joins, 2 locals", [lambda n=n: [in_file(joins(n, 2), 1)] for n in (655, 6553, LIMIT)]),
     ("joins, 255 locals", [lambda n=n: [in_file(joins(n, 255), 1)] for n in (655, 6553, LIMIT)]),
-    ("joins, 65,535 locals", [lambda n=n: [in_file(joins(n, LIMIT), 1)] for n in (65, 655)]),
+    ("joins, 65,535 locals", [lambda n=n: [in_file(joins(n, LIMIT), 1)] for n in (655, 6553, LIMIT)]),
+    ("stores in 1,000 of 65,535 locals, joins", [lambda n=n: [in_file(wide_stores(n, 1000), 1)] for n in (6553, LIMIT)]),
+    ("stores in 10,000 of 65,535 locals", [lambda: [in_file(wide_stores(LIMIT, 10000), 1)]]),
     ("jumps back, 255 locals", [lambda n=n: [in_file(back_jumps(n, 255), 1)] for n in (655, 6553, LIMIT)]),
     ("1,000 handlers", [lambda n=n: [in_file(handlers(n, 1000), 1)] for n in (655, 6553, LIMIT)]),
-    ("a stack that grows to the end", [lambda n=n: [in_file(deep_stack(n), 1)] for n in (65, 655, 6553)]),
+    ("5,000 handlers", [lambda n=n: [in_file(handlers(n, 5000), 1)] for n in (655, 6553)]),
+    ("a stack that grows to the end", [lambda n=n: [in_file(deep_stack(n), 1)] for n in (655, 6553, LIMIT)]),
     ("15 methods of joins, 2 locals", [lambda: [in_file(joins(LIMIT, 2), 15)]]),
     ("15 methods of joins, 255 locals", [lambda: [in_file(joins(LIMIT, 255), 15)]]),
     ("a chain of classes", [lambda n=n: chain_files(n) for n in (10, 100, 1000)]),
@@ -145,7 +160,7 @@ def main():
                 size = sum(map(len, files))
                 took = least_time([CJVM, "check", *written(folder, files)], 0, None)
                 net = max(took - small, 0) / size * 1e9
-                print(f"{name:32} {size:8} bytes: {took * 1000:9.2f} ms, {net:9.1f} ns a byte")
+                print(f"{name:40} {size:8} bytes: {took * 1000:9.2f} ms, {net:9.1f} ns a byte")
 
 
 if __name__ == "__main__":

@@ -1,5 +1,6 @@
 pub mod Rules
 pub mod Fitting
+pub mod Sharing
 pub mod Places
 pub mod GivenLaws
 pub mod Worklist

@@ -20,7 +20,7 @@ use Rattle.flow_verifier.specs.Methods.{room_of, IsMethod}
 use Rattle.flow_verifier.specs.Given.{given, target, edges, is_caught}
 use Rattle.flow_verifier.specs.Typing.{frame_at}
 use Rattle.flow_verifier.specs.Flowing.{Flows, IsAlike}
-use Rattle.flow_verifier.specs.Going.{IsFlagged, IsGoing, IsPartly, IsMarked, IsCatcher, IsFlowing, IsVisiting}
+use Rattle.flow_verifier.specs.Going.{IsFlagged, IsGoing, IsPartly, IsMarked, IsCatcher, IsFlowing, IsPut, IsVisiting}
 use Rattle.flow_verifier.specs.Potential.{potential}
 use Rattle.flow_verifier.proofs.GivenLaws.{given-clash, given-open, given-frame, edge-is}
 use Rattle.flow_verifier.proofs.Worklist.{partly-start, partly-end, flag-set, flag-clear, flag-length}
@@ -77,13 +77,6 @@ one-set : (ts : List FlowType) (t : FlowType) → length ts ≡ 1 → slice_set 
 one-set [] t e = absurd (omega arith)
 one-set (x ∷ []) t e = refl
 one-set (x ∷ y ∷ ts) t e = absurd (omega arith)
-
--- a catcher with another class
-pub record IsPut (c d : FlowFrame) (class : ℕ) : Type 0 where
-  pub stack : d.stack ≡ slice_set c.stack 0 (Class class)
-  pub locals : d.locals ≡ c.locals
-  pub fresh : d.fresh ≡ c.fresh
-  pub clash : d.clash ≡ c.clash
 
 clash-put : (c d : FlowFrame) (class : ℕ) → IsPut c d class → c ≡ clash_frame → d ≡ clash_frame
 clash-put c d class h e =

@@ -8,6 +8,7 @@ use Rattle.jvm_base.specs.Words.{from}
 use Rattle.std.proofs.Math.ListN.{replicate}
 use Rattle.flow_types.specs.Frames.{clash_frame, IsFrame}
 use Rattle.flow_types.specs.declared.flow_frame.FlowFrame.{FlowFrame}
+use Rattle.flow_types.specs.declared.flow_type.FlowType.TheVariants.{Class}
 use Rattle.flow_verifier.specs.declared.method.Method.{Method}
 use Rattle.flow_verifier.specs.declared.method.Edge.{Edge}
 use Rattle.flow_verifier.specs.declared.method.Edge.TheVariants.{Next, Caught}
@@ -83,6 +84,13 @@ pub record IsStart (p : Program) (m : Method) (s : Rising) : Type 0 where
 abbrev pub IsCatcher : FlowFrame → FlowFrame → Type 0
 IsCatcher f c = MatchBool f.clash (c ≡ clash_frame)
     ((c.clash ≡ false) × (c.locals ≡ f.locals) × (c.fresh ≡ f.fresh) × (length c.stack ≡ 1))
+
+-- a catcher with another class
+pub record IsPut (c d : FlowFrame) (class : ℕ) : Type 0 where
+  pub stack : d.stack ≡ slice_set c.stack 0 (Class class)
+  pub locals : d.locals ≡ c.locals
+  pub fresh : d.fresh ≡ c.fresh
+  pub clash : d.clash ≡ c.clash
 
 -- what flows from the instruction at a place that has the frame
 pub record IsFlowing (p : Program) (m : Method) (f : FlowFrame) (v : Visit) : Type 0 where

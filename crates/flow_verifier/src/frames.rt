@@ -3,14 +3,14 @@
 ghost use Rattle.std.specs.Prelude.{◌≡◌, length, slice_get};
 ghost use Rattle.std.specs.Option.{option_copied};
 
-use flow_types::FlowFrame;
+use crate::shared_frame::SharedFrame;
 use jvm_base::List;
 use std::marker::Model;
 
 /// A frame, or none, for each instruction of a method. Contracts see the list of them.
 #[derive(Drop)]
 pub struct Frames {
-    frames: List<Option<FlowFrame>>,
+    frames: List<Option<SharedFrame>>,
 }
 
 impl Model for Frames {
@@ -24,7 +24,7 @@ impl Model for Frames {
 
 impl Frames {
     /// The frames of a list. It takes no memory.
-    pub(crate) fn from_list(frames: List<Option<FlowFrame>>) -> Frames
+    pub(crate) fn from_list(frames: List<Option<SharedFrame>>) -> Frames
         ensures { result ≡ frames }
     {
         Frames { frames }
@@ -38,7 +38,7 @@ impl Frames {
     }
 
     /// The frame of the instruction at a place, if it has one; `None` exactly past the end.
-    pub fn get(&self, place: usize) -> Option<&Option<FlowFrame>>
+    pub fn get(&self, place: usize) -> Option<&Option<SharedFrame>>
         ensures { option_copied result ≡ slice_get self.now place }
     {
         self.frames.get(place)

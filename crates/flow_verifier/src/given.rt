@@ -14,8 +14,8 @@ ghost use Rattle.flow_verifier.specs.Given.{work_of, frame_of_work, depth_rules,
 
 use crate::facts::Facts;
 use crate::method::{Edge, Method, ops_of};
+use crate::shared_frame::SharedFrame;
 use code_table::Placed;
-use flow_types::FlowFrame;
 use instruction_table::{Row, Stack, Work, falls, lower, rule};
 use jvm_base::NoMemory;
 use program_image::Image;
@@ -95,6 +95,7 @@ fn lowest_of(
 
 /// Lets an instruction work on a frame, by its row.
 fn work_on(
+    alloc: Global,
     image: &Image,
     m: &Method,
     i: usize,
@@ -112,29 +113,12 @@ fn work_on(
         ≡ next (site_of image.now m.now.number) (row_at image.now m.now placed.now) work) }
 {
     let before = depth_rule(&work.stack, m.max_stack);
-    let broken = work.run(image, m.number, row)?;
+    let broken = work.run(alloc, image, m.number, row)?;
     let after = after_rule(broken, &work.stack, m.max_stack);
     let last = last_rule(placed, i, count);
     Ok(Worked {
         work,
         rule: lowest_of(before, broken, after, last),
-    })
-}
-
-/// A frame at work.
-fn begin(alloc: Global, f: &FlowFrame) -> Result<Work, NoMemory>
-    ensures { IfOk result (λ w. w ≡ work_of f.now) }
-{
-    let FlowFrame {
-        locals,
-        stack,
-        fresh,
-        clash: _,
-    } = f.copy(alloc)?;
-    Ok(Work {
-        locals,
-        stack: Stack::from_list(stack),
-        fresh,
     })
 }
 
@@ -153,6 +137,7 @@ fn row_at<'f>(image: &Image, m: &Method, facts: &'f Facts, i: usize, placed: &Pl
 
 /// Lets the instruction at a place work on a frame.
 fn work_there(
+    alloc: Global,
     image: &Image,
     m: &Method,
     facts: &Facts,
@@ -170,7 +155,7 @@ fn work_there(
     match ops.get(i) {
         Some(placed) => {
             let row = row_at(image, m, facts, i, placed);
-            work_on(image, m, i, ops.len(), placed, row, work)
+            work_on(alloc, image, m, i, ops.len(), placed, row, work)
         }
         None => Ok(Worked { work, rule: None }),
     }
@@ -184,7 +169,7 @@ fn work_at(
     m: &Method,
     facts: &Facts,
     i: usize,
-    f: &FlowFrame,
+    f: &SharedFrame,
 ) -> Result<Worked, NoMemory>
     requires within { m.now.number < length image.now.methods }
     requires known { IsKnown image.now m.now facts.now }
@@ -193,7 +178,7 @@ fn work_at(
         ≡ next_there image.now m.now (slice_get (ops_of image.now m.now.number) i) (work_of f.now)) }
 {
     let place = place_rule(image, m, facts, i);
-    let worked = work_there(image, m, facts, i, begin(alloc, f)?)?;
+    let worked = work_there(alloc, image, m, facts, i, f.work()?)?;
     Ok(Worked {
         work: worked.work,
         rule: lower(place, worked.rule),
@@ -208,27 +193,16 @@ pub(crate) fn broken_rule(
     m: &Method,
     facts: &Facts,
     i: usize,
-    f: &FlowFrame,
+    f: &SharedFrame,
 ) -> Result<Option<u8>, NoMemory>
     requires within { m.now.number < length image.now.methods }
     requires known { IsKnown image.now m.now facts.now }
     ensures { IfOk result (λ r. r ≡ lowest (broken image.now m.now i f.now)) }
 {
-    if f.clash {
+    if f.is_clash() {
         return Ok(Some(rule::CLASH));
     }
     Ok(work_at(alloc, image, m, facts, i, f)?.rule)
-}
-
-fn frame_of_work(work: Work) -> FlowFrame
-    ensures { result ≡ frame_of_work work }
-{
-    FlowFrame {
-        locals: work.locals,
-        stack: work.stack.into_list(),
-        fresh: work.fresh,
-        clash: false,
-    }
 }
 
 /// What the instruction at a place gives to those that control goes on to.
@@ -239,18 +213,18 @@ pub(crate) fn given_next(
     m: &Method,
     facts: &Facts,
     i: usize,
-    f: &FlowFrame,
-) -> Result<FlowFrame, NoMemory>
+    f: &SharedFrame,
+) -> Result<SharedFrame, NoMemory>
     requires within { m.now.number < length image.now.methods }
     requires known { IsKnown image.now m.now facts.now }
     ensures { IfOk result (λ g. (to : ℕ) → g ≡ given image.now m.now i f.now (Edge.Next to)) }
 {
-    if f.clash {
-        return Ok(FlowFrame::clash(alloc));
+    if f.is_clash() {
+        return Ok(SharedFrame::clash());
     }
-    let worked = work_at(alloc, image, m, facts, i, f)?;
-    match worked.rule {
-        Some(_) => Ok(FlowFrame::clash(alloc)),
-        None => Ok(frame_of_work(worked.work)),
+    let Worked { work, rule } = work_at(alloc, image, m, facts, i, f)?;
+    if let Some(_) = rule {
+        return Ok(SharedFrame::clash());
     }
+    Ok(SharedFrame::of_work(work))
 }

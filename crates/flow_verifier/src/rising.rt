@@ -9,7 +9,8 @@ ghost use Rattle.flow_verifier.specs.Flowing.{Flows, Rose, IsAlike};
 ghost use Rattle.flow_verifier.specs.Going.{In, IsFlagged, IsMarked, IsStart};
 
 use crate::method::{Method, ops_of};
-use flow_types::{FlowFrame, Steps};
+use crate::shared_frame::SharedFrame;
+use flow_types::Steps;
 use jvm_base::{List, NoMemory};
 use program_image::Image;
 use std::alloc::Global;
@@ -19,7 +20,7 @@ use std::sync::ledger::Ledger;
 /// is among these.
 #[derive(Drop)]
 pub(crate) struct Rising {
-    pub frames: List<Option<FlowFrame>>,
+    pub frames: List<Option<SharedFrame>>,
     pub todo: List<u32>,
     pub queued: List<bool>,
 }
@@ -28,8 +29,8 @@ pub(crate) struct Rising {
 fn rise(
     alloc: Global,
     image: &Image,
-    place: &mut Option<FlowFrame>,
-    g: &FlowFrame,
+    place: &mut Option<SharedFrame>,
+    g: &SharedFrame,
 ) -> Result<bool, NoMemory>
     requires tree { IsTree (superclasses image.now) }
     requires alike { IsAlike g.now place.old }
@@ -37,31 +38,17 @@ fn rise(
 {
     match place {
         Some(f) => {
-            if f.takes(image, g) {
+            if f.takes(alloc, image, g)? {
                 return Ok(false);
             }
-            f.raise(alloc, image, g);
+            f.raise(alloc, image, g)?;
         }
-        None => *place = Some(g.copy(alloc)?),
+        None => *place = Some(g.share()?),
     }
     Ok(true)
 }
 
-/// The frame in which a method begins.
-fn entry(alloc: Global, m: &Method) -> Result<FlowFrame, NoMemory>
-    ensures { IfOk result (λ f. f ≡ entry_frame m.now) }
-{
-    let mut locals = List::new(alloc);
-    locals.append(m.entry.as_slice())?;
-    Ok(FlowFrame {
-        locals,
-        stack: List::new(alloc),
-        fresh: m.fresh,
-        clash: false,
-    })
-}
-
-fn no_frames(alloc: Global, count: usize) -> Result<List<Option<FlowFrame>>, NoMemory>
+fn no_frames(alloc: Global, count: usize) -> Result<List<Option<SharedFrame>>, NoMemory>
     ensures { IfOk result (λ fs. fs ≡ replicate count None) }
 {
     let mut frames = List::new(alloc);
@@ -99,7 +86,7 @@ impl Rising {
     {
         let count = ops_of(image, m.number).len();
         let mut frames = no_frames(alloc, count)?;
-        frames.set(0, Some(entry(alloc, m)?));
+        frames.set(0, Some(SharedFrame::entry(alloc, m)?));
         let queued = no_flags(alloc, count)?;
         let mut todo = List::new(alloc);
         todo.push(0)?;
@@ -153,7 +140,7 @@ impl Rising {
         &mut self,
         alloc: Global,
         image: &Image,
-        g: &FlowFrame,
+        g: &SharedFrame,
         to: u32,
         steps: &mut Steps<L>,
     ) -> Result<(), NoMemory>

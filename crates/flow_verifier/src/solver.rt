@@ -9,7 +9,8 @@ ghost use Rattle.flow_verifier.specs.Going.{IsKnown};
 use crate::facts::Facts;
 use crate::method::Method;
 use crate::rising::Rising;
-use flow_types::{FlowFrame, Steps};
+use crate::shared_frame::SharedFrame;
+use flow_types::Steps;
 use jvm_base::{List, NoMemory};
 use program_image::Image;
 use std::alloc::Global;
@@ -22,7 +23,7 @@ pub(crate) fn solve<L: Ledger>(
     m: &Method,
     facts: &Facts,
     steps: &mut Steps<L>,
-) -> Result<List<Option<FlowFrame>>, NoMemory>
+) -> Result<List<Option<SharedFrame>>, NoMemory>
     requires tree { IsTree (superclasses image.now) }
     requires fine { IsMethod image.now m.now }
     requires known { IsKnown image.now m.now facts.now }

@@ -13,9 +13,10 @@ use crate::facts::Facts;
 use crate::frames::Frames;
 use crate::given::broken_rule;
 use crate::method::{Method, method_with, ops_of};
+use crate::shared_frame::SharedFrame;
 use crate::solver::solve;
 use code_table::Placed;
-use flow_types::{FlowFrame, Steps};
+use flow_types::Steps;
 use jvm_base::{List, NoMemory};
 use program_image::{Body, Image};
 use std::alloc::Global;
@@ -35,7 +36,7 @@ fn rule_at(
     image: &Image,
     m: &Method,
     facts: &Facts,
-    frames: &List<Option<FlowFrame>>,
+    frames: &List<Option<SharedFrame>>,
     i: usize,
 ) -> Result<Option<u8>, NoMemory>
     requires within { m.now.number < length image.now.methods }
@@ -64,7 +65,7 @@ fn first_broken(
     image: &Image,
     m: &Method,
     facts: &Facts,
-    frames: &List<Option<FlowFrame>>,
+    frames: &List<Option<SharedFrame>>,
 ) -> Result<Option<Breach>, NoMemory>
     requires within { m.now.number < length image.now.methods }
     requires known { IsKnown image.now m.now facts.now }
@@ -87,7 +88,7 @@ fn judge<L: Ledger>(
     m: &Method,
     facts: &Facts,
     steps: &mut Steps<L>,
-) -> Result<List<Option<FlowFrame>>, VerifyErr>
+) -> Result<List<Option<SharedFrame>>, VerifyErr>
     requires tree { IsTree (superclasses image.now) }
     requires fine { IsMethod image.now m.now }
     requires known { IsKnown image.now m.now facts.now }
@@ -115,7 +116,7 @@ fn verify_ready<L: Ledger>(
     image: &Image,
     m: &Method,
     steps: &mut Steps<L>,
-) -> Result<List<Option<FlowFrame>>, VerifyErr>
+) -> Result<List<Option<SharedFrame>>, VerifyErr>
     requires tree { IsTree (superclasses image.now) }
     requires fine { IsMethod image.now m.now }
     ensures verdict { Judged image.now m.now result }

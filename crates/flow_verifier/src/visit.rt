@@ -9,7 +9,6 @@ ghost use Rattle.flow_verifier.specs.Given.{edges, is_caught};
 ghost use Rattle.flow_verifier.specs.Typing.{frame_at};
 ghost use Rattle.flow_verifier.specs.Going.{IsKnown, IsMarked, IsGoing, IsCatcher, IsFlowing, IsVisiting};
 ghost use Rattle.flow_verifier.specs.Potential.{potential};
-ghost use Rattle.flow_types.specs.declared.flow_type.FlowType.TheVariants.{Class};
 ghost use Rattle.flow_verifier.specs.declared.method.Edge.TheVariants.{Caught};
 
 use crate::edges::edges_of;
@@ -17,7 +16,8 @@ use crate::facts::Facts;
 use crate::given::given_next;
 use crate::method::{Edge, Method};
 use crate::rising::Rising;
-use flow_types::{FlowFrame, FlowType, Steps};
+use crate::shared_frame::SharedFrame;
+use flow_types::Steps;
 use jvm_base::{List, NoMemory};
 use program_image::Image;
 use std::alloc::Global;
@@ -29,8 +29,8 @@ use std::sync::ledger::Ledger;
 pub(crate) struct Visit {
     pub at: u32,
     pub edges: List<Edge>,
-    pub next: FlowFrame,
-    pub caught: FlowFrame,
+    pub next: SharedFrame,
+    pub caught: SharedFrame,
 }
 
 fn is_caught(edge: &Edge) -> bool
@@ -51,59 +51,34 @@ fn any_caught(edges: &[Edge]) -> bool
     false
 }
 
-/// The locals of a frame, below an operand that stands for what is caught.
-fn catcher(alloc: Global, f: &FlowFrame) -> Result<FlowFrame, NoMemory>
-    ensures { IfOk result (λ c. IsCatcher f.now c) }
-{
-    if f.clash {
-        return Ok(FlowFrame::clash(alloc));
-    }
-    let mut locals = List::new(alloc);
-    locals.append(f.locals.as_slice())?;
-    let mut stack = List::new(alloc);
-    stack.push(FlowType::Null)?;
-    Ok(FlowFrame {
-        locals,
-        stack,
-        fresh: f.fresh,
-        clash: false,
-    })
-}
-
-/// The same, where one of the edges leads to a handler. Else it takes no memory.
+/// The locals of a frame, below an operand that stands for what is caught, where one of the edges
+/// leads to a handler.
 #[tactic(auto, using(crate::proofs::Visits::none_caught))]
-fn caught_for(alloc: Global, edges: &[Edge], f: &FlowFrame) -> Result<FlowFrame, NoMemory>
+fn caught_for(
+    alloc: Global,
+    m: &Method,
+    edges: &[Edge],
+    f: &SharedFrame,
+) -> Result<SharedFrame, NoMemory>
     ensures { IfOk result (λ c. (k to class : ℕ) → slice_get edges.now k
         ≡ Some (Caught to class) → IsCatcher f.now c) }
 {
     if any_caught(edges) {
-        catcher(alloc, f)
+        f.catcher(alloc, m)
     } else {
-        Ok(FlowFrame::clash(alloc))
+        Ok(SharedFrame::clash())
     }
 }
 
-/// Puts the class in place of the operand.
-fn put_class(caught: &mut FlowFrame, class: u32)
-    ensures stack { caught.new.stack ≡ slice_set caught.old.stack 0 (Class class) }
-    ensures locals { caught.new.locals ≡ caught.old.locals }
-    ensures fresh { caught.new.fresh ≡ caught.old.fresh }
-    ensures clash { caught.new.clash ≡ caught.old.clash }
-{
-    if 0 < caught.stack.len() {
-        caught.stack.set(0, FlowType::Class(class));
-    }
-}
-
-/// What flows from the instruction at a place, which has the frame. The locals are copied for
-/// handlers only where there are some.
+/// What flows from the instruction at a place, which has the frame. Handlers share its
+/// locals.
 fn flowing(
     alloc: Global,
     image: &Image,
     m: &Method,
     facts: &Facts,
     at: u32,
-    f: &FlowFrame,
+    f: &SharedFrame,
 ) -> Result<Visit, NoMemory>
     requires fine { IsMethod image.now m.now }
     requires known { IsKnown image.now m.now facts.now }
@@ -112,7 +87,7 @@ fn flowing(
 {
     let next = given_next(alloc, image, m, facts, at as usize, f)?;
     let edges = edges_of(alloc, image, m, at)?;
-    let caught = caught_for(alloc, edges.as_slice(), f)?;
+    let caught = caught_for(alloc, m, edges.as_slice(), f)?;
     Ok(Visit {
         at,
         edges,
@@ -122,7 +97,7 @@ fn flowing(
 }
 
 /// The frame of a place, if it has one.
-fn frame_at(frames: &List<Option<FlowFrame>>, at: u32) -> Option<&FlowFrame>
+fn frame_at(frames: &List<Option<SharedFrame>>, at: u32) -> Option<&SharedFrame>
     ensures { option_copied result ≡ frame_at frames.now at }
 {
     match frames.get(at as usize) {
@@ -183,7 +158,7 @@ impl Rising {
         match visit.edges.as_slice()[k] {
             Edge::Next(to) => self.flow(alloc, image, &visit.next, to, steps),
             Edge::Caught { to, class } => {
-                put_class(&mut visit.caught, class);
+                visit.caught.put_class(alloc, class)?;
                 self.flow(alloc, image, &visit.caught, to, steps)
             }
         }

@@ -130,10 +130,15 @@ fn is_joined(entry: &FlowFrame, last: &FlowFrame, letter: u8, kept: bool) -> boo
 }
 
 /// Whether the frames of a method are as said.
-fn are_joined(frames: &Frames, letter: u8, kept: bool) -> bool {
+fn are_joined(alloc: Global, frames: &Frames, letter: u8, kept: bool) -> Result<bool, NoMemory> {
     match (frames.get(0), frames.get(frames.len().saturating_sub(1))) {
-        (Some(Some(entry)), Some(Some(last))) => is_joined(entry, last, letter, kept),
-        _ => false,
+        (Some(Some(entry)), Some(Some(last))) => Ok(is_joined(
+            &entry.frame(alloc)?,
+            &last.frame(alloc)?,
+            letter,
+            kept,
+        )),
+        _ => Ok(false),
     }
 }
 
@@ -158,7 +163,7 @@ fn joins(alloc: Global, image: &Image, method: u32, letter: u8, kept: bool) -> R
     requires fine { AreVerifiable image.now }
 {
     match frames_of(alloc, image, method) {
-        Ok(Some(frames)) => Ok(are_joined(&frames, letter, kept)),
+        Ok(Some(frames)) => Ok(are_joined(alloc, &frames, letter, kept)?),
         Ok(None) => Ok(false),
         Err(VerifyErr::Flow(e)) => Ok(kept && letter == b'U' && (e.rule, e.at) == (7, 21)),
         Err(VerifyErr::NoMemory) => Err(NoMemory.into()),

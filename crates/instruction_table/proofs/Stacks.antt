@@ -1,11 +1,15 @@
 -- Room of lists of types.
-use Rattle.std.proofs.Common.{◌≡◌, ◌∙◌, sym, ap, refl, ◌+◌, ◌-◌, ◌<◌, ◌≤◌, List, [], ◌∷◌, ◌++◌, length, drop, arith}
+use Rattle.std.proofs.Common.{◌≡◌, ◌∙◌, sym, ap, refl, ◌+◌, ◌-◌, ◌<◌, ◌≤◌, List, [], ◌∷◌, ◌++◌, length, drop, slice_get, Some, None, true, false, zero, arith}
 use Rattle.std.specs.Prelude.{reverse, get_or}
-use Rattle.std.proofs.lemmas.List.{length-reverse, get_or-reverse}
+use Rattle.std.proofs.lemmas.List.{length-reverse, get_or-reverse, reverse-reverse}
+use Rattle.std.proofs.lemmas.Option.{get_or_from_slice_get}
+use Rattle.shared_types.specs.Trees.{longs}
+use Rattle.shared_types.proofs.Laws.{get_there}
+use Rattle.instruction_table.specs.Needs.{is_long}
 use mathlib.Core.List.{reverse-cons}
 use Rattle.flow_types.specs.declared.flow_type.FlowType.{FlowType}
 use Rattle.instruction_table.specs.Working.{slots, first_or}
-use Rattle.flow_types.specs.declared.flow_type.FlowType.TheVariants.{Null}
+use Rattle.flow_types.specs.declared.flow_type.FlowType.TheVariants.{Unusable, Int, Long, High, Null, Class, Array, Fresh, FreshThis}
 
 slots-append : (xs ys : List FlowType) → slots (xs ++ ys) ≡ slots xs + slots ys
 slots-append [] ys = omega arith
@@ -38,3 +42,55 @@ second_last xs d h =
     let e : length (reverse xs) ≡ length xs = length-reverse xs in
     let f : length xs - 1 - 1 ≡ length xs - 2 = omega arith in
     ap (λ k. get_or xs k d) (sym f) ∙ sym (get_or-reverse xs 1 d (omega arith)) ∙ many (reverse xs) d (omega arith)
+
+-- the last but one, where it is there
+pub second_there : (xs : List FlowType) (t : FlowType) → 2 ≤ length xs → slice_get xs (length xs - 2) ≡ Some t → t ≡ first_or Null (drop 1 (reverse xs))
+second_there xs t h e = sym (get_or_from_slice_get xs (length xs - 2) t t e) ∙ second_last xs t h
+
+pub second_not_there : (xs : List FlowType) → 2 ≤ length xs → slice_get xs (length xs - 2) ≡ None → Null ≡ first_or Null (drop 1 (reverse xs))
+second_not_there xs h e = absurd (get_there xs (length xs - 2) (omega arith) e)
+
+pub reverse_twice : (xs : List FlowType) → reverse (reverse xs) ≡ xs
+reverse_twice xs = reverse-reverse xs
+
+pub length_reverse : (xs : List FlowType) → length (reverse xs) ≡ length xs
+length_reverse xs = length-reverse xs
+
+-- ---- longs, which take one slot more
+
+slots_one : (t : FlowType) (ts : List FlowType) → slots (t ∷ ts) ≡ 1 + longs (t ∷ []) + slots ts
+slots_one Unusable ts = omega arith
+slots_one Int ts = omega arith
+slots_one Long ts = omega arith
+slots_one High ts = omega arith
+slots_one Null ts = omega arith
+slots_one (Class c) ts = omega arith
+slots_one (Array d e) ts = omega arith
+slots_one (Fresh a) ts = omega arith
+slots_one FreshThis ts = omega arith
+
+pub slots_longs : (xs : List FlowType) → slots xs ≡ length xs + longs xs
+slots_longs [] = refl
+slots_longs (x ∷ xs) = omega (arith, slots_one x xs, slots_longs xs)
+
+pub long_one : (t : FlowType) → is_long t ≡ true → longs (t ∷ []) ≡ 1
+long_one Unusable h = absurd cc
+long_one Int h = absurd cc
+long_one Long h = refl
+long_one High h = absurd cc
+long_one Null h = absurd cc
+long_one (Class c) h = absurd cc
+long_one (Array d e) h = absurd cc
+long_one (Fresh a) h = absurd cc
+long_one FreshThis h = absurd cc
+
+pub short_one : (t : FlowType) → is_long t ≡ false → longs (t ∷ []) ≡ 0
+short_one Unusable h = refl
+short_one Int h = refl
+short_one Long h = absurd cc
+short_one High h = refl
+short_one Null h = refl
+short_one (Class c) h = refl
+short_one (Array d e) h = refl
+short_one (Fresh a) h = refl
+short_one FreshThis h = refl

@@ -1,35 +1,27 @@
 //! Initialising: each copy of an uninitialised type made an initialised one.
 
-ghost use Rattle.std.specs.Prelude.{◌≡◌, slice_get, slice_set, MatchOption};
-ghost use Rattle.instruction_table.specs.Working.{is_same_new, begun, begun_one};
+ghost use Rattle.std.specs.Prelude.{◌≡◌, OnOk, OnErr};
+ghost use Rattle.instruction_table.specs.Working.{begun};
 
+use crate::need::is_uninitialised;
 use flow_types::FlowType;
-use jvm_base::List;
-
-fn is_same_new(was: FlowType, t: FlowType) -> bool
-    ensures { result ≡ is_same_new was t }
-{
-    match (was, t) {
-        (FlowType::Fresh(a), FlowType::Fresh(b)) => a == b,
-        (FlowType::FreshThis, FlowType::FreshThis) => true,
-        _ => false,
-    }
-}
-
-fn begin_at(list: &mut List<FlowType>, at: usize, was: FlowType, now: FlowType)
-    ensures { MatchOption (slice_get list.old at) (list.new ≡ list.old) (λ t. list.new ≡ slice_set list.old at (begun_one was now t)) }
-{
-    if let Some(found) = list.get(at) {
-        let t = *found;
-        list.set(at, if is_same_new(was, t) { now } else { t });
-    }
-}
+use jvm_base::NoMemory;
+use shared_types::Types;
+use std::alloc::Global;
 
 /// Makes each copy of an uninitialised type another type.
-pub(crate) fn begin_all(list: &mut List<FlowType>, was: FlowType, now: FlowType)
-    ensures { list.new ≡ begun was now list.old }
+#[tactic(auto, using(crate::proofs::Beginning::none_begun, crate::proofs::Beginning::all_begun, crate::proofs::Beginning::never_unusable))]
+pub(crate) fn begin_all(
+    alloc: Global,
+    list: &mut Types,
+    was: FlowType,
+    now: FlowType,
+) -> Result<(), NoMemory>
+    ensures ok { OnOk result (list.new ≡ begun was now list.old) }
+    ensures err { OnErr result (list.new ≡ list.old) }
 {
-    for i in 0..list.len() {
-        begin_at(list, i, was, now);
+    if is_uninitialised(&was) {
+        list.replace(alloc, was, now)?;
     }
+    Ok(())
 }

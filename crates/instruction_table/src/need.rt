@@ -29,7 +29,7 @@ pub(crate) fn is_reference(t: &FlowType) -> bool
     }
 }
 
-fn is_uninitialised(t: &FlowType) -> bool
+pub(crate) fn is_uninitialised(t: &FlowType) -> bool
     ensures { result ≡ is_uninitialised t.now }
 {
     matches!(t, FlowType::Fresh(_) | FlowType::FreshThis)

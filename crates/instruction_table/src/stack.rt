@@ -1,10 +1,13 @@
 //! The types of a stack, seen with the newest first.
 
-ghost use Rattle.std.specs.Prelude.{◌≡◌, ◌∷◌, ◌++◌, [], nat_lt, drop, length, replicate, reverse, MatchOption, OnOk};
-ghost use Rattle.flow_types.specs.Tree.{superclasses};
+ghost use Rattle.std.specs.Prelude.{◌≡◌, ◌∷◌, ◌++◌, [], nat_lt, drop, length, replicate, reverse, slice_set, IfOk, MatchOption, OnOk};
+ghost use Rattle.std.specs.Bool.{MatchBool};
+ghost use Rattle.flow_types.specs.Tree.{superclasses, IsTree};
+ghost use Rattle.flow_types.specs.TypeLists.{types_joined};
+ghost use Rattle.shared_types.specs.Trees.{all_operands};
 ghost use Rattle.instruction_table.specs.LowestRule.{lowest};
 ghost use Rattle.instruction_table.specs.Needs.{needs_rules};
-ghost use Rattle.instruction_table.specs.Working.{slots, type_slots, begun, first_or, under};
+ghost use Rattle.instruction_table.specs.Working.{slots, begun, first_or, under};
 ghost use Rattle.instruction_table.specs.Groups.{IsTaken, IsPair, values, broken};
 
 use crate::begin::begin_all;
@@ -13,14 +16,18 @@ use crate::need::{is_long, need_rule};
 use crate::row::{Group, Need};
 use crate::rule;
 use flow_types::FlowType;
-use jvm_base::{List, NoMemory};
+use jvm_base::NoMemory;
 use program_image::Image;
+use shared_types::Types;
+use std::alloc::Global;
 use std::marker::Model;
 
-/// A stack of types. Contracts see them with the newest first.
+/// A stack of types. Contracts see them with the newest first. It knows how many are longs, so that
+/// its room is known at once.
 #[derive(Drop)]
 pub struct Stack {
-    items: List<FlowType>,
+    items: Types,
+    wide: usize,
 }
 
 impl Model for Stack {
@@ -29,49 +36,139 @@ impl Model for Stack {
 
     ghost Value = { Items FlowType };
 
+    ghost use Rattle.shared_types.specs.Trees.{longs};
+    ghost use Rattle.std.specs.Prelude.{◌≡◌};
+
     ghost view = { λ a. reverse a.items };
+
+    ghost invariant = { λ a. a.wide ≡ longs a.items };
 }
 
 impl Stack {
-    /// The stack of a list with the newest last. It takes no memory.
-    pub fn from_list(items: List<FlowType>) -> Stack
-        ensures { result ≡ reverse items }
+    /// The empty stack, with room for so many types. It takes no memory.
+    pub fn new(room: usize) -> Stack
+        ensures { result ≡ [] }
     {
-        Stack { items }
+        Stack {
+            items: Types::new(room),
+            wide: 0,
+        }
     }
 
-    /// The list of the types, with the newest last. It takes no memory.
-    pub fn into_list(self) -> List<FlowType>
-        ensures { result ≡ reverse self }
+    /// The stack of a list with the newest last.
+    pub fn from_list(alloc: Global, list: &[FlowType]) -> Result<Stack, NoMemory>
+        ensures { IfOk result (λ s. s ≡ reverse list.now) }
     {
-        self.items
+        let items = Types::from_list(alloc, list)?;
+        let wide = items.longs();
+        Ok(Stack { items, wide })
     }
 
+    /// The same stack. It takes no memory, however deep it is.
+    pub fn share(&self) -> Result<Stack, NoMemory>
+        ensures { IfOk result (λ s. s ≡ self.now) }
+    {
+        Ok(Stack {
+            items: self.items.share()?,
+            wide: self.wide,
+        })
+    }
+
+    /// How many types there are.
+    #[tactic(auto, using(crate::proofs::Stacks::length_reverse))]
+    pub fn depth(&self) -> usize
+        ensures { result ≡ length self.now }
+    {
+        self.items.len()
+    }
+
+    /// The types, with the newest last.
+    #[tactic(auto, using(crate::proofs::Stacks::reverse_twice))]
+    pub fn types(&self) -> &Types
+        ensures { result.now ≡ reverse self.now }
+    {
+        &self.items
+    }
+
+    #[tactic(auto, using(shared_types::proofs::Laws::longs_parts, crate::proofs::Stacks::long_one, crate::proofs::Stacks::short_one))]
     pub fn pop(&mut self) -> Option<FlowType>
         ensures { MatchOption result ((self.old ≡ []) × (self.new ≡ [])) (λ t. self.old ≡ t ∷ self.new) }
     {
-        self.items.pop()
+        let t = self.items.pop()?;
+        if is_long(&t) {
+            self.wide -= 1;
+        }
+        Some(t)
     }
 
-    pub fn push(&mut self, t: FlowType) -> Result<(), NoMemory>
+    #[tactic(auto, using(shared_types::proofs::Laws::longs_parts, shared_types::proofs::Laws::few_of, crate::proofs::Stacks::long_one, crate::proofs::Stacks::short_one))]
+    pub fn push(&mut self, alloc: Global, t: FlowType) -> Result<(), NoMemory>
         ensures { OnOk result (self.new ≡ t ∷ self.old) }
     {
-        self.items.push(t)
+        self.items.push(alloc, t)?;
+        if is_long(&t) && self.wide < self.items.len() {
+            self.wide += 1;
+        }
+        Ok(())
     }
 
     /// Whether the types need more room than that.
-    #[tactic(auto, using(crate::proofs::Stacks::slots_reverse))]
+    #[tactic(auto, using(crate::proofs::Stacks::slots_reverse, crate::proofs::Stacks::slots_longs))]
     pub fn exceeds(&self, room: u32) -> bool
         ensures { result ≡ nat_lt room (slots self.now) }
     {
-        types_exceed(self.items.as_slice(), room)
+        let depth = self.items.len();
+        depth > room as usize || self.wide > room as usize - depth
     }
 
     /// Makes each copy of an uninitialised type another type.
-    pub(crate) fn begin(&mut self, was: FlowType, now: FlowType)
-        ensures { self.new ≡ begun was now self.old }
+    #[tactic(auto, using(crate::proofs::Beginning::reverse_begun))]
+    pub(crate) fn begin(
+        &mut self,
+        alloc: Global,
+        was: FlowType,
+        now: FlowType,
+    ) -> Result<(), NoMemory>
+        ensures { OnOk result (self.new ≡ begun was now self.old) }
     {
-        begin_all(&mut self.items, was, now);
+        begin_all(alloc, &mut self.items, was, now)?;
+        self.wide = self.items.longs();
+        Ok(())
+    }
+
+    /// Puts another type in place of the oldest.
+    #[tactic(auto, using(crate::proofs::Stacks::reverse_twice, crate::proofs::Stacks::length_reverse))]
+    pub fn set_oldest(&mut self, alloc: Global, t: FlowType) -> Result<(), NoMemory>
+        ensures { OnOk result (reverse self.new ≡ slice_set (reverse self.old) 0 t) }
+    {
+        if 0 < self.items.len() {
+            self.items.set(alloc, 0, t)?;
+            self.wide = self.items.longs();
+        }
+        Ok(())
+    }
+
+    /// Whether each type can stand on a stack. It takes time in their number.
+    #[tactic(auto, using(crate::proofs::Stacks::reverse_twice))]
+    pub fn are_operands(&self) -> bool
+        ensures { result ≡ all_operands (reverse self.now) }
+    {
+        self.items.are_operands()
+    }
+
+    /// Makes each type the least that it and the one at its place in another stack fit, and tells
+    /// whether it did; it doesn't where the two are of unlike shapes.
+    #[tactic(auto, using(crate::proofs::Stacks::reverse_twice, crate::proofs::Stacks::length_reverse))]
+    pub fn raise(&mut self, alloc: Global, image: &Image, low: &Stack) -> Result<bool, NoMemory>
+        requires tree { IsTree (superclasses image.now) }
+        requires alike { length self.old ≡ length low.now }
+        ensures { IfOk result (λ done. MatchBool done
+            (reverse self.new ≡ types_joined (superclasses image.now) (reverse self.old) (reverse low.now))
+            (self.new ≡ self.old)) }
+    {
+        let done = self.items.raise(alloc, image, &low.items)?;
+        self.wide = self.items.longs();
+        Ok(done)
     }
 
     /// Takes operands, and tells the lowest rule that they break.
@@ -92,7 +189,7 @@ impl Stack {
     }
 
     /// The type below the newest, or Null.
-    #[tactic(auto, using(crate::proofs::Stacks::no_second, crate::proofs::Stacks::second_last))]
+    #[tactic(auto, using(crate::proofs::Stacks::no_second, crate::proofs::Stacks::second_there, crate::proofs::Stacks::second_not_there))]
     pub(crate) fn second(&self) -> FlowType
         ensures { result ≡ first_or FlowType.Null (drop 1 self.now) }
     {
@@ -100,7 +197,10 @@ impl Stack {
         if count < 2 {
             return FlowType::Null;
         }
-        self.items.as_slice()[count - 2]
+        match self.items.get(count - 2) {
+            Some(t) => t,
+            None => FlowType::Null,
+        }
     }
 
     /// Takes a group, and gives it.
@@ -136,25 +236,25 @@ impl Stack {
     }
 
     /// Puts a group.
-    pub(crate) fn put(&mut self, taken: Taken) -> Result<(), NoMemory>
+    pub(crate) fn put(&mut self, alloc: Global, taken: Taken) -> Result<(), NoMemory>
         ensures { OnOk result (self.new ≡ values taken ++ self.old) }
     {
         match taken {
-            Taken::One(t) => self.push(t),
+            Taken::One(t) => self.push(alloc, t),
             Taken::Two(t, u) => {
-                self.push(u)?;
-                self.push(t)
+                self.push(alloc, u)?;
+                self.push(alloc, t)
             }
             _ => Ok(()),
         }
     }
 
     /// Puts so many stand-ins of one slot.
-    pub(crate) fn fill(&mut self, count: u8) -> Result<(), NoMemory>
+    pub(crate) fn fill(&mut self, alloc: Global, count: u8) -> Result<(), NoMemory>
         ensures { OnOk result (self.new ≡ replicate count FlowType.Null ++ self.old) }
     {
         for _ in 0..count {
-            self.push(FlowType::Null)?;
+            self.push(alloc, FlowType::Null)?;
         }
         Ok(())
     }
@@ -180,28 +280,5 @@ impl Taken {
             Taken::Split => Some(rule::OPERAND),
             _ => None,
         }
-    }
-}
-
-fn types_exceed(types: &[FlowType], room: u32) -> bool
-    ensures { result ≡ nat_lt room (slots types.now) }
-{
-    let mut left = room;
-    for i in 0..types.len() {
-        let need = type_room(&types[i]);
-        if left < need {
-            return true;
-        }
-        left -= need;
-    }
-    false
-}
-
-fn type_room(t: &FlowType) -> u32
-    ensures { result ≡ type_slots t.now }
-{
-    match t {
-        FlowType::Long => 2,
-        _ => 1,
     }
 }

@@ -16,14 +16,16 @@ use crate::row::{Gives, Group, Need, Row, Slot};
 use crate::rule;
 use crate::stack::Stack;
 use flow_types::{Element, FlowType, fits, parent};
-use jvm_base::{List, NoMemory};
+use jvm_base::NoMemory;
 use program_image::Image;
+use shared_types::Types;
+use std::alloc::Global;
 
 /// The types of locals and of operands, and whether the receiver of an initialiser may still be
 /// uninitialised. Contracts see operands with the newest first.
 #[derive(Drop)]
 pub struct Work {
-    pub locals: List<FlowType>,
+    pub locals: Types,
     pub stack: Stack,
     pub fresh: bool,
 }
@@ -52,16 +54,6 @@ fn read_rule(slot: Slot, local: Option<FlowType>, after: Option<FlowType>) -> Op
     }
 }
 
-/// A local, where it is there.
-fn local_at(locals: &List<FlowType>, at: usize) -> Option<FlowType>
-    ensures { result ≡ slice_get locals.now at }
-{
-    match locals.get(at) {
-        Some(t) => Some(*t),
-        None => None,
-    }
-}
-
 fn read_type(slot: Slot, local: Option<FlowType>) -> FlowType
     ensures { result ≡ read_type slot local }
 {
@@ -74,25 +66,33 @@ fn read_type(slot: Slot, local: Option<FlowType>) -> FlowType
 }
 
 /// Sets a local, where it is there.
-fn set_local(locals: &mut List<FlowType>, at: usize, t: FlowType)
-    ensures { locals.new ≡ slice_set locals.old at t }
+fn set_local(alloc: Global, locals: &mut Types, at: usize, t: FlowType) -> Result<(), NoMemory>
+    ensures { OnOk result (locals.new ≡ slice_set locals.old at t) }
 {
     if at < locals.len() {
-        locals.set(at, t);
+        locals.set(alloc, at, t)?;
     }
+    Ok(())
 }
 
-fn write_local(locals: &mut List<FlowType>, slot: Slot, local: u16, t: FlowType)
-    ensures { locals.new ≡ written slot local t locals.old }
+fn write_local(
+    alloc: Global,
+    locals: &mut Types,
+    slot: Slot,
+    local: u16,
+    t: FlowType,
+) -> Result<(), NoMemory>
+    ensures { OnOk result (locals.new ≡ written slot local t locals.old) }
 {
-    set_local(locals, local as usize, t);
-    if let Slot::Long = slot {
-        set_local(locals, local as usize + 1, FlowType::High);
+    set_local(alloc, locals, local as usize, t)?;
+    match slot {
+        Slot::Long => set_local(alloc, locals, local as usize + 1, FlowType::High),
+        _ => Ok(()),
     }
 }
 
 /// The rule that is broken where there are too few locals for one that is written.
-fn room_rule(slot: Slot, local: u16, locals: &List<FlowType>) -> Option<u8>
+fn room_rule(slot: Slot, local: u16, locals: &Types) -> Option<u8>
     ensures { result ≡ lowest (room_rules (local + slot_count slot) locals.now) }
 {
     let needed = match slot {
@@ -165,41 +165,39 @@ fn init_rule(image: &Image, method: u32, class: u32, t: &FlowType) -> Option<u8>
 
 impl Work {
     /// Reads a local, and tells the rule that this breaks.
-    fn read(&mut self, slot: Slot, local: u16) -> Result<Option<u8>, NoMemory>
+    fn read(&mut self, alloc: Global, slot: Slot, local: u16) -> Result<Option<u8>, NoMemory>
         ensures rules { IfOk result (λ r. r ≡ lowest (read_rules slot (slice_get self.old.locals local) (slice_get self.old.locals (local + 1)))) }
         ensures next { OnOk result (self.new ≡ with_stack self.old (read_type slot (slice_get self.old.locals local) ∷ self.old.stack)) }
     {
-        let found = local_at(&self.locals, local as usize);
-        let broken = read_rule(slot, found, local_at(&self.locals, local as usize + 1));
+        let found = self.locals.get(local as usize);
+        let broken = read_rule(slot, found, self.locals.get(local as usize + 1));
         let t = read_type(slot, found);
-        self.stack.push(t)?;
+        self.stack.push(alloc, t)?;
         Ok(broken)
     }
 
     /// Writes an operand into a local, and tells the rule that this breaks.
-    fn write(&mut self, slot: Slot, local: u16) -> Option<u8>
-        ensures rules { result ≡ lowest (taken_rules slot self.old.stack ++ room_rules (local + slot_count slot) self.old.locals) }
-        ensures next { self.new ≡ written_work slot local self.old }
+    fn write(&mut self, alloc: Global, slot: Slot, local: u16) -> Result<Option<u8>, NoMemory>
+        ensures rules { IfOk result (λ r. r ≡ lowest (taken_rules slot self.old.stack ++ room_rules (local + slot_count slot) self.old.locals)) }
+        ensures next { OnOk result (self.new ≡ written_work slot local self.old) }
     {
         let room = room_rule(slot, local, &self.locals);
-        let t = match self.stack.pop() {
-            None => {
-                write_local(&mut self.locals, slot, local, FlowType::Unusable);
-                return lower(Some(rule::MISSING), room);
-            }
-            Some(t) => t,
+        let Some(t) = self.stack.pop() else {
+            write_local(alloc, &mut self.locals, slot, local, FlowType::Unusable)?;
+            return Ok(lower(Some(rule::MISSING), room));
         };
-        write_local(&mut self.locals, slot, local, t);
+        write_local(alloc, &mut self.locals, slot, local, t)?;
         if fills(slot, &t) {
-            room
+            Ok(room)
         } else {
-            lower(Some(rule::OPERAND), room)
+            Ok(lower(Some(rule::OPERAND), room))
         }
     }
 
     /// Takes operands and pushes what they give.
     fn act(
         &mut self,
+        alloc: Global,
         image: &Image,
         owner: u32,
         needs: &[Need],
@@ -212,14 +210,14 @@ impl Work {
         let broken = self.stack.take(image, owner, needs);
         match gives {
             Gives::Nothing => {}
-            Gives::One(t) => self.stack.push(t)?,
-            Gives::Part => self.stack.push(part_type(second))?,
+            Gives::One(t) => self.stack.push(alloc, t)?,
+            Gives::Part => self.stack.push(alloc, part_type(second))?,
         }
         Ok(broken)
     }
 
     /// Puts a copy of a group below the one under it.
-    fn double(&mut self, top: Group, below: Group) -> Result<Option<u8>, NoMemory>
+    fn double(&mut self, alloc: Global, top: Group, below: Group) -> Result<Option<u8>, NoMemory>
         ensures rules { IfOk result (λ r. r ≡ lowest (both_rules top below self.old.stack)) }
         ensures next { OnOk result (self.new ≡ with_stack self.old (doubled_types top below self.old.stack)) }
     {
@@ -227,17 +225,17 @@ impl Work {
         let second = self.stack.take_group(below);
         let broken = lower(first.rule(), second.rule());
         if let Some(_) = broken {
-            self.stack.fill(2 * slots_of(top) + slots_of(below))?;
+            self.stack.fill(alloc, 2 * slots_of(top) + slots_of(below))?;
             return Ok(broken);
         }
-        self.stack.put(first)?;
-        self.stack.put(second)?;
-        self.stack.put(first)?;
+        self.stack.put(alloc, first)?;
+        self.stack.put(alloc, second)?;
+        self.stack.put(alloc, first)?;
         Ok(None)
     }
 
     /// Turns two values.
-    fn swap(&mut self) -> Result<Option<u8>, NoMemory>
+    fn swap(&mut self, alloc: Global) -> Result<Option<u8>, NoMemory>
         ensures rules { IfOk result (λ r. r ≡ lowest (both_rules Group.One Group.One self.old.stack)) }
         ensures next { OnOk result (self.new ≡ with_stack self.old (swapped self.old.stack)) }
     {
@@ -250,11 +248,11 @@ impl Work {
             None
         };
         let Some(below) = self.stack.pop() else {
-            self.stack.push(top)?;
+            self.stack.push(alloc, top)?;
             return Ok(lower(broken, Some(rule::MISSING)));
         };
-        self.stack.push(top)?;
-        self.stack.push(below)?;
+        self.stack.push(alloc, top)?;
+        self.stack.push(alloc, below)?;
         if is_long(&below) {
             return Ok(lower(broken, Some(rule::OPERAND)));
         }
@@ -262,22 +260,30 @@ impl Work {
     }
 
     /// Makes each copy of the object's type an initialised one.
-    fn begin(&mut self, image: &Image, method: u32, object: FlowType)
+    fn begin(
+        &mut self,
+        alloc: Global,
+        image: &Image,
+        method: u32,
+        object: FlowType,
+    ) -> Result<(), NoMemory>
         requires { method < length image.now.methods }
-        ensures { self.new ≡ begun_all (site_of image.now method) object self.old }
+        ensures { OnOk result (self.new ≡ begun_all (site_of image.now method) object self.old) }
     {
         let now = new_type(image, method, object);
-        begin_all(&mut self.locals, object, now);
-        self.stack.begin(object, now);
+        begin_all(alloc, &mut self.locals, object, now)?;
+        self.stack.begin(alloc, object, now)?;
         if let FlowType::FreshThis = object {
             self.fresh = false;
         }
+        Ok(())
     }
 
     /// Calls an initialiser of the class.
     #[tactic(auto, using(crate::proofs::LowestLaws::lowest_append))]
     fn init(
         &mut self,
+        alloc: Global,
         image: &Image,
         method: u32,
         needs: &[Need],
@@ -294,11 +300,11 @@ impl Work {
             None => (FlowType::Null, Some(rule::MISSING)),
             Some(t) => (t, init_rule(image, method, class, &t)),
         };
-        self.begin(image, method, object);
+        self.begin(alloc, image, method, object)?;
         match gives {
             Gives::Nothing => {}
-            Gives::One(t) => self.stack.push(t)?,
-            Gives::Part => self.stack.push(part_type(second))?,
+            Gives::One(t) => self.stack.push(alloc, t)?,
+            Gives::Part => self.stack.push(alloc, part_type(second))?,
         }
         Ok(lower(operands, broken))
     }
@@ -321,30 +327,38 @@ impl Work {
 
     /// Lets a row of a method's instruction work on the frame, and tells the lowest rule that it
     /// breaks there.
-    pub fn run(&mut self, image: &Image, method: u32, row: &Row) -> Result<Option<u8>, NoMemory>
+    pub fn run(
+        &mut self,
+        alloc: Global,
+        image: &Image,
+        method: u32,
+        row: &Row,
+    ) -> Result<Option<u8>, NoMemory>
         requires { method < length image.now.methods }
         ensures rules { IfOk result (λ r. r ≡ lowest (row_rules (site_of image.now method) row.now self.old)) }
         ensures next { OnOk result (self.new ≡ next (site_of image.now method) row.now self.old) }
     {
         match row {
             Row::Acts { needs, gives } => {
-                self.act(image, owner_of(image, method), needs.as_slice(), *gives)
+                self.act(
+                    alloc,
+                    image,
+                    owner_of(image, method),
+                    needs.as_slice(),
+                    *gives,
+                )
             }
-            Row::Reads { slot, local } => self.read(*slot, *local),
-            Row::Writes { slot, local } => Ok(self.write(*slot, *local)),
-            Row::Bumps(local) => Ok(read_rule(
-                Slot::Int,
-                local_at(&self.locals, *local as usize),
-                None,
-            )),
+            Row::Reads { slot, local } => self.read(alloc, *slot, *local),
+            Row::Writes { slot, local } => self.write(alloc, *slot, *local),
+            Row::Bumps(local) => Ok(read_rule(Slot::Int, self.locals.get(*local as usize), None)),
             Row::Drops(group) => Ok(self.stack.take_group(*group).rule()),
-            Row::Doubles { top, below } => self.double(*top, *below),
-            Row::Swaps => self.swap(),
+            Row::Doubles { top, below } => self.double(alloc, *top, *below),
+            Row::Swaps => self.swap(alloc),
             Row::Inits {
                 needs,
                 class,
                 gives,
-            } => self.init(image, method, needs.as_slice(), *class, *gives),
+            } => self.init(alloc, image, method, needs.as_slice(), *class, *gives),
             Row::Ends { needs, fits } => {
                 Ok(self.end(image, owner_of(image, method), needs.as_slice(), *fits))
             }
