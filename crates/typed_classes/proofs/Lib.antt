@@ -1,3 +1,4 @@
 pub mod Steps
 pub mod Subtypes
 pub mod Fields
+pub mod ClassLaws

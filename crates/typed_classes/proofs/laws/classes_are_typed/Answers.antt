@@ -1,13 +1,5 @@
-use Rattle.typed_classes.proofs.Subtypes.{sub_fits, supers_fit, strings, buffers}
-use Rattle.typed_classes.proofs.Fields.{fields}
+use Rattle.typed_classes.proofs.ClassLaws.{classes_law}
 use Rattle.typed_classes.proofs.laws.classes_are_typed.Goals as goal
 
 pub returns : goal.returns
-returns c p table = record {
-  subs = record { tree = table.tree; sub_fits = sub_fits p table };
-  supers_fit = supers_fit p table;
-  strings = strings p table;
-  buffers = buffers p table;
-  parts = λ c part a e q. (table.arrays c a e).part_typed part q;
-  fields = fields p table;
-}
+returns c = classes_law
