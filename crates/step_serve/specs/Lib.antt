@@ -1,2 +1,4 @@
+pub mod Blank
 pub mod Cells
+pub mod Elements
 pub mod Telling

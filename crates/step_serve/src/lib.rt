@@ -2,9 +2,24 @@
 //! pick and name fit, what changes, and the answer. Nothing is changed here.
 #![tactic(auto)]
 
+mod blanks;
+mod bodies;
+mod boot;
+mod buffers;
 mod cell;
+mod classes;
+mod faults;
+mod locks;
+mod makes;
 mod names;
+mod serving;
 mod telling;
+mod threads;
 
+pub use blanks::Blanks;
 pub use cell::{BodyRef, Cell};
+pub use faults::{Server, fault, text};
+pub use locks::retake;
+pub use makes::{make_array, make_object};
 pub use names::Names;
+pub use serving::{serve_body, serve_class, serve_console, serve_lock, serve_thread};
