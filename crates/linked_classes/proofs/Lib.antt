@@ -1,0 +1,3 @@
+pub mod Positions
+pub mod BootAbove
+pub mod Above
