@@ -1,6 +1,5 @@
 pub mod DecodedFacts
 pub mod Typed
-pub mod SmallForms
 pub mod SmallOps
 pub mod TypedLaws
 pub mod MethodLaws

@@ -54,8 +54,7 @@ use Rattle.link_image.proofs.ListLaws.{all_append, all_map_from, all_numbered, a
 use Rattle.instruction_table.specs.ClassTypes.{array_at, method_at as info_at}
 use Rattle.flow_verifier.specs.Methods.{ops_of}
 use Rattle.acceptance.proofs.MethodLaws.{IsDecoded}
-use Rattle.acceptance.proofs.SmallForms.{method_small}
-use Rattle.acceptance.proofs.SmallOps.{all_small_ops}
+use Rattle.acceptance.proofs.SmallOps.{method_small, all_small_ops}
 use Rattle.acceptance.proofs.Typed.{AreSmall, IsSmallOp, IsSmallValue, IsSmallTarget, IsTyped}
 
 -- an array type has one to 255 dimensions
