@@ -18,11 +18,7 @@ pub fn is_sub(image: &Image, low: u32, high: u32) -> bool
     requires { high < length image.now.classes }
     ensures { result ≡ is_sub_of image.now.classes low high }
 {
-    if low < image.classes() {
-        image.is_sub(low, high)
-    } else {
-        low == high
-    }
+    low < image.classes() && image.is_sub(low, high)
 }
 
 /// What a call of a method runs on a receiver of the class; `interface` says that it is called as an
