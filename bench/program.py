@@ -5,7 +5,9 @@ import sys
 import time
 
 TOP = os.path.dirname(os.path.dirname(os.path.abspath(__file__)))
+# so many runs of a program are timed, as long as they take less than so many seconds together
 RUNS = 7
+PATIENCE = 5
 
 
 def program(name):
@@ -27,7 +29,7 @@ def least_time(words, status, output=b""):
     """The least time, in seconds, of some runs of these words, each of which must answer as said.
 
     An output of None is any output."""
-    best = None
+    best, spent = None, 0
     for _ in range(RUNS):
         start = time.perf_counter()
         done = subprocess.run(words, capture_output=True, check=False)
@@ -35,4 +37,7 @@ def least_time(words, status, output=b""):
         if done.returncode != status or output not in (None, done.stdout):
             sys.exit(f"status {done.returncode}, output {done.stdout!r}, error {done.stderr!r}")
         best = took if best is None else min(best, took)
+        spent += took
+        if spent > PATIENCE:
+            break
     return best
