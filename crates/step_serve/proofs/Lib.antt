@@ -1,6 +1,7 @@
 pub mod Chains
 pub mod Zeros
 pub mod MakingOne
+pub mod Rows
 pub mod Elements
 pub mod Owners
 pub mod Buffering

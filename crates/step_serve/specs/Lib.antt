@@ -1,4 +1,5 @@
 pub mod Blank
 pub mod Cells
 pub mod Elements
+pub mod Levels
 pub mod Telling

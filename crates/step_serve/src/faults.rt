@@ -38,7 +38,7 @@ fn fault_effects(made: Effect, more: Option<Effect>) -> Effects
 }
 
 /// An exception of a class is made and raised, before a further effect.
-pub fn fault<N: Names>(
+pub(crate) fn fault<N: Names>(
     alloc: Global,
     server: &Server<N>,
     class: u32,
@@ -61,7 +61,7 @@ pub fn fault<N: Names>(
 }
 
 /// A String of these units is made.
-pub fn text<N: Names>(server: &Server<N>, units: Units) -> Served
+pub(crate) fn text<N: Names>(server: &Server<N>, units: Units) -> Served
     ensures { (reads : List (Place × Held)) → Tells (N.heap server.now.names.now) server.now.wish
         (making_text result.choice.name reads units) result }
 {

@@ -2,6 +2,7 @@
 //! pick and name fit, what changes, and the answer. Nothing is changed here.
 #![tactic(auto)]
 
+mod arrays;
 mod blanks;
 mod bodies;
 mod boot;
@@ -18,8 +19,7 @@ mod threads;
 
 pub use blanks::Blanks;
 pub use cell::{BodyRef, Cell};
-pub use faults::{Server, fault, text};
+pub use faults::Server;
 pub use locks::retake;
-pub use makes::{make_array, make_object};
 pub use names::Names;
-pub use serving::{serve_body, serve_class, serve_console, serve_lock, serve_thread};
+pub use serving::serve;

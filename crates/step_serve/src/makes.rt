@@ -8,6 +8,7 @@ ghost use Rattle.machine_state.specs.Making.{making, made_objects, new_body};
 ghost use Rattle.step_serve.specs.Blank.{AreBlanks};
 ghost use Rattle.step_serve.specs.Telling.{Tells};
 
+use crate::arrays::arrays;
 use crate::blanks::element_zero;
 use crate::boot::{STRING, STRING_BUFFER};
 use crate::faults::Server;
@@ -31,7 +32,12 @@ fn new_body<N: Names>(alloc: Global, server: &Server<N>, class: u32) -> Result<O
 }
 
 /// A new array whose elements are no arrays that are made with it.
-fn flat_body(alloc: Global, image: &Image, class: u32, size: u32) -> Result<ObjectBody, NoMemory>
+pub(crate) fn flat_body(
+    alloc: Global,
+    image: &Image,
+    class: u32,
+    size: u32,
+) -> Result<ObjectBody, NoMemory>
     ensures { IfOk result (λ body. body ≡ object.Array (replicate size (element_zero image.now class))) }
 {
     let mut elements = Vec::new(alloc);
@@ -55,28 +61,20 @@ fn one<N: Names>(server: &Server<N>, class: u32, body: ObjectBody) -> Served
     making(server.names, choice, class, effects, answer)
 }
 
-/// An object of a class that is no array.
-pub fn make_object<N: Names>(
+/// An object of a class without sizes, else its arrays, the outermost first.
+pub(crate) fn make<N: Names>(
     alloc: Global,
     server: &Server<N>,
     class: u32,
+    sizes: &[u32],
 ) -> Result<Served, NoMemory>
     requires { AreBlanks server.now.image.now server.now.blanks.now }
     ensures { IfOk result (λ s. Tells (N.heap server.now.names.now) server.now.wish
-        (making s.choice.name (made_objects server.now.image.now s.choice.name class [])) s) }
+        (making s.choice.name (made_objects server.now.image.now s.choice.name class sizes.now)) s) }
 {
-    Ok(one(server, class, new_body(alloc, server, class)?))
-}
-
-/// An array of a class, whose elements are no arrays that are made with it.
-pub fn make_array<N: Names>(
-    alloc: Global,
-    server: &Server<N>,
-    class: u32,
-    size: u32,
-) -> Result<Served, NoMemory>
-    ensures { IfOk result (λ s. Tells (N.heap server.now.names.now) server.now.wish
-        (making s.choice.name (made_objects server.now.image.now s.choice.name class (size ∷ []))) s) }
-{
-    Ok(one(server, class, flat_body(alloc, server.image, class, size)?))
+    match sizes {
+        [] => Ok(one(server, class, new_body(alloc, server, class)?)),
+        [size] => Ok(one(server, class, flat_body(alloc, server.image, class, *size)?)),
+        [_, _, ..] => arrays(alloc, server, class, sizes),
+    }
 }

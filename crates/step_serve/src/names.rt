@@ -18,7 +18,7 @@ pub trait Names {
 }
 
 /// The node of names that no step makes.
-const NO_NODE: u8 = 255;
+pub(crate) const NO_NODE: u8 = 255;
 
 /// The name that a step which makes nothing is given.
 pub(crate) const NO_NAME: Name = Name {

@@ -1,21 +1,23 @@
-//! Requests served from the parts that they address.
+//! A request served from its cell.
 
 ghost use Rattle.std.specs.Prelude.{◌≡◌, ℕ, Bool, List, IfOk, option_map};
 ghost use Rattle.jvm_base.specs.declared.name.Name.{Name as Named};
 ghost use Rattle.jvm_base.specs.declared.value.Uncaught.{Uncaught as AnyUncaught};
-ghost use Rattle.machine_state.specs.Requests.{Body, Lock, Class, Threads, Console, OfLock, OfClass, OfConsole, key_of};
+ghost use Rattle.machine_state.specs.Requests.{NoCell, Body, Lock, Class, Threads, Console, Nowhere, OfLock, OfClass, OfConsole, cell, key_of};
 ghost use Rattle.machine_state.specs.Serve.{serve};
-ghost use Rattle.machine_state.specs.State.{waiters_of};
+ghost use Rattle.machine_state.specs.Serving.{IsServing};
+ghost use Rattle.machine_state.specs.State.{State, waiters_of};
 ghost use Rattle.step_serve.specs.Blank.{AreBlanks};
-ghost use Rattle.step_serve.specs.Cells.{IsBodyOf, IsEnded, lent_body, wish_thread};
+ghost use Rattle.step_serve.specs.Cells.{IsCell, IsBodyOf, IsEnded, lent_body, wish_thread};
 ghost use Rattle.step_serve.specs.Telling.{TellsOf};
 
 use crate::bodies::{get, len, load, put, store};
 use crate::buffers::buffer;
-use crate::cell::BodyRef;
+use crate::cell::{BodyRef, Cell};
 use crate::classes::{begin, fail, finish};
-use crate::faults::Server;
+use crate::faults::{Server, fault, text};
 use crate::locks::{enter, exit, notify, notify_all, wait};
+use crate::makes::make;
 use crate::names::Names;
 use crate::threads::{end, join, print, start};
 use jvm_base::NoMemory;
@@ -36,9 +38,28 @@ fn thread_of(wish: Wish) -> u32
     }
 }
 
+/// What is asked of nothing that is there: it makes an object.
+#[tactic(auto, unfolding(machine_state::specs::Serve::serve))]
+fn serve_making<N: Names>(
+    alloc: Global,
+    server: &Server<N>,
+    request: Request,
+) -> Result<Option<Served>, NoMemory>
+    requires { AreBlanks server.now.image.now server.now.blanks.now }
+    ensures { IfOk result (λ served. key_of request ≡ Nowhere → TellsOf (N.heap server.now.names.now) server.now.wish
+        (λ c. serve server.now.image.now (wish_thread server.now.wish) c request NoCell) served) }
+{
+    match request {
+        Request::Make(class, sizes) => { Ok(Some(make(alloc, server, class, sizes.as_slice())?)) }
+        Request::MakeText(units) => Ok(Some(text(server, units))),
+        Request::Fault(class) => Ok(Some(fault(alloc, server, class, None)?)),
+        _ => Ok(None),
+    }
+}
+
 /// What is asked of a body.
 #[tactic(auto, unfolding(machine_state::specs::Serve::serve))]
-pub fn serve_body<N: Names>(
+fn serve_body<N: Names>(
     alloc: Global,
     server: &Server<N>,
     request: Request,
@@ -63,7 +84,7 @@ pub fn serve_body<N: Names>(
 
 /// What is asked of a lock.
 #[tactic(auto, unfolding(machine_state::specs::Serve::serve))]
-pub fn serve_lock<N: Names>(
+fn serve_lock<N: Names>(
     alloc: Global,
     server: &Server<N>,
     request: &Request,
@@ -90,7 +111,7 @@ pub fn serve_lock<N: Names>(
 
 /// What is asked of a class.
 #[tactic(auto, unfolding(machine_state::specs::Serve::serve))]
-pub fn serve_class<N: Names>(
+fn serve_class<N: Names>(
     alloc: Global,
     server: &Server<N>,
     request: &Request,
@@ -112,7 +133,7 @@ pub fn serve_class<N: Names>(
 
 /// What is asked of the threads.
 #[tactic(auto, unfolding(machine_state::specs::Serve::serve))]
-pub fn serve_thread<N: Names>(
+fn serve_thread<N: Names>(
     alloc: Global,
     server: &Server<N>,
     request: &Request,
@@ -133,7 +154,7 @@ pub fn serve_thread<N: Names>(
 
 /// What is asked of the output.
 #[tactic(auto, unfolding(machine_state::specs::Serve::serve))]
-pub fn serve_console<N: Names>(
+fn serve_console<N: Names>(
     alloc: Global,
     server: &Server<N>,
     request: &Request,
@@ -144,5 +165,28 @@ pub fn serve_console<N: Names>(
     match request {
         Request::Print(units) => Ok(Some(print(alloc, server.wish, units.as_slice())?)),
         _ => Ok(None),
+    }
+}
+
+/// What a request does: which choice it follows, whether the choice's pick and name are those that it
+/// wants, what changes, and the answer; `None` exactly where it isn't enabled. Nothing is changed.
+pub fn serve<N: Names>(
+    alloc: Global,
+    server: &Server<N>,
+    request: Request,
+    place: Cell<'_>,
+) -> Result<Option<Served>, NoMemory>
+    requires { AreBlanks server.now.image.now server.now.blanks.now }
+    ensures { IfOk result (λ served. (m : State) → m.heap ≡ N.heap server.now.names.now → IsCell m request place.entry
+        → IsServing m server.now.wish
+        (λ c. serve server.now.image.now (wish_thread server.now.wish) c request (cell m (key_of request))) served) }
+{
+    match place {
+        Cell::Nowhere => serve_making(alloc, server, request),
+        Cell::Body(body) => serve_body(alloc, server, request, body),
+        Cell::Lock { owner, waiting } => serve_lock(alloc, server, &request, owner, waiting),
+        Cell::Class(state) => serve_class(alloc, server, &request, state),
+        Cell::Thread(ended) => serve_thread(alloc, server, &request, ended),
+        Cell::Console => serve_console(alloc, server, &request),
     }
 }
