@@ -1,4 +1,4 @@
--- A frame that fits the typing at its address meets the condition of its instruction.
+-- A frame of the types that the verifier found has what its instruction asks.
 use Rattle.std.proofs.Common.{◌≡◌, ◌∙◌, ap, subst, refl, ℕ, suc, ◌+◌, ◌-◌, ◌<◌, ◌≤◌, Bool, true, false, List, [], ◌∷◌, ◌++◌, drop, length, Option, Some, None, arith}
 use Rattle.std.specs.Prelude.{◌&&◌, ◌==◌, if◌then◌else◌, replicate}
 use Rattle.std.specs.Option.{option_to_list}

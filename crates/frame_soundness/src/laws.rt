@@ -3,7 +3,7 @@
 ghost use Rattle.frame_soundness.specs.Conditions.{ConditionLaw};
 ghost use Rattle.frame_soundness.specs.Moving.{MovesLaw};
 
-/// A frame that fits the typing at its address has the operands, the locals and the room that its
+/// A frame of the types that the verifier found has the operands, the locals and the room that its
 /// instruction asks for, and room for what answers it.
 pub fn meets_condition()
     ensures { ConditionLaw }
