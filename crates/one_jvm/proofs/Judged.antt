@@ -4,7 +4,7 @@ use Rattle.std.specs.Prelude.{◌≢◌}
 use Rattle.cjvm_io.specs.Shelves.{Files}
 use Rattle.cjvm_io.specs.Sinks.{Showing}
 use Rattle.thin_file.specs.declared.thin.ThinCode.{ThinCode}
-use Rattle.one_machine.specs.declared.state.Choice.{Choice}
+use Rattle.thin_machine.specs.declared.state.Choice.{Choice}
 use Rattle.one_jvm.specs.declared.outcome.Stop.{Stop}
 use Rattle.one_jvm.specs.declared.outcome.Stop.TheVariants as stop
 use Rattle.one_jvm.specs.declared.outcome.Refusal.{Refusal}

@@ -5,22 +5,22 @@ use Rattle.std.specs.Io.KnownBytes.{Appends}
 use Rattle.thin_file.specs.declared.thin.ThinCode.{ThinCode}
 use Rattle.thin_file.specs.Thin.{IsThinCode}
 use Rattle.jvm_base.specs.declared.memory.NoMemory.{NoMemory}
-use Rattle.one_machine.specs.State.{State}
-use Rattle.one_machine.specs.declared.state.Choice.{Choice}
-use Rattle.one_machine.specs.Step.{step}
-use Rattle.one_machine.specs.Sound.{IsSound}
-use Rattle.one_machine.specs.Steps.Acts.{steps_of}
-use Rattle.one_machine.specs.Runs.{LeadsTo, end_of}
+use Rattle.thin_machine.specs.State.{State}
+use Rattle.thin_machine.specs.declared.state.Choice.{Choice}
+use Rattle.thin_machine.specs.Step.{step}
+use Rattle.thin_machine.specs.Sound.{IsSound}
+use Rattle.thin_machine.specs.Steps.Acts.{steps_of}
+use Rattle.thin_machine.specs.Runs.{LeadsTo, end_of}
 use Rattle.std.proofs.lemmas.List.{length-append}
 use Rattle.std.proofs.Math.Seq.{take-append-add}
-use Rattle.one_machine.specs.declared.state.End.TheVariants.{Going}
-use Rattle.one_machine.specs.declared.state.Reason.{Reason}
-use Rattle.one_machine.specs.declared.state.StepErr.{StepErr}
-use Rattle.one_machine.specs.declared.state.StepErr.TheVariants.{NotEnabled}
-use Rattle.one_machine.specs.Refusals.{Explains}
-use Rattle.one_machine.specs.Start.{start}
-use Rattle.one_machine.proofs.RunLaws.{leads_none, leads_more}
-use Rattle.one_machine.proofs.Reasons.{never_dead, no_uncaught, few_steps}
+use Rattle.thin_machine.specs.declared.state.End.TheVariants.{Going}
+use Rattle.thin_machine.specs.declared.state.Reason.{Reason}
+use Rattle.thin_machine.specs.declared.state.StepErr.{StepErr}
+use Rattle.thin_machine.specs.declared.state.StepErr.TheVariants.{NotEnabled}
+use Rattle.thin_machine.specs.Refusals.{Explains}
+use Rattle.thin_machine.specs.Start.{start}
+use Rattle.thin_machine.proofs.RunLaws.{leads_none, leads_more}
+use Rattle.thin_machine.proofs.Reasons.{never_dead, no_uncaught, few_steps}
 use Rattle.cjvm_io.specs.Faults.{Rose}
 use Rattle.one_jvm.specs.Runs.{IsWhole, IsPart, GainsOutput}
 use Rattle.one_jvm.specs.declared.running.Run.{Run}

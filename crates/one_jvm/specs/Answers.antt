@@ -6,7 +6,7 @@ use Rattle.cjvm_io.specs.Shelves.{Files}
 use Rattle.cjvm_io.specs.Sinks.{Showing, GainsFront}
 use Rattle.class_format.specs.declared.class.ClassFile.{ClassFile}
 use Rattle.thin_file.specs.declared.thin.ThinCode.{ThinCode}
-use Rattle.one_machine.specs.declared.state.Choice.{Choice}
+use Rattle.thin_machine.specs.declared.state.Choice.{Choice}
 use Rattle.one_jvm.specs.declared.outcome.Stop.{Stop}
 use Rattle.one_jvm.specs.declared.outcome.Stop.TheVariants as stop
 use Rattle.one_jvm.specs.declared.outcome.Refusal.{Refusal}

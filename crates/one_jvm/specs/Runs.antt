@@ -4,10 +4,10 @@ use Rattle.std.specs.Io.KnownBytes.{Appends}
 use Rattle.cjvm_io.specs.Faults.{Rose}
 use Rattle.cjvm_io.specs.Sinks.{Showing, GainsFront}
 use Rattle.thin_file.specs.declared.thin.ThinCode.{ThinCode}
-use Rattle.one_machine.specs.declared.state.Choice.{Choice}
-use Rattle.one_machine.specs.declared.state.End.TheVariants.{AllEnded}
-use Rattle.one_machine.specs.State.{State}
-use Rattle.one_machine.specs.Runs.{LeadsTo, end_of}
+use Rattle.thin_machine.specs.declared.state.Choice.{Choice}
+use Rattle.thin_machine.specs.declared.state.End.TheVariants.{AllEnded}
+use Rattle.thin_machine.specs.State.{State}
+use Rattle.thin_machine.specs.Runs.{LeadsTo, end_of}
 use Rattle.one_jvm.specs.declared.outcome.Stop.{Stop}
 use Rattle.one_jvm.specs.declared.outcome.Stop.TheVariants.{Done, WriteFault, NoMemory}
 

@@ -6,7 +6,7 @@ ghost use Rattle.one_jvm.specs.Outcomes.{place_of, status_of};
 use class_file::ClassErr;
 use flow_verifier::FlowErr;
 use link_rules::LinkErr;
-use one_machine::Order;
+use thin_machine::Order;
 use thiserror::Error;
 
 /// How a run ended: every thread has ended and none left an exception uncaught; a write of the

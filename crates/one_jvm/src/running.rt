@@ -2,15 +2,15 @@
 
 ghost use Rattle.std.specs.Prelude.{◌≡◌, ◌↔◌, ◌≤◌, IsTrue, length, OnOk};
 ghost use Rattle.thin_file.specs.Thin.{IsThinCode};
-ghost use Rattle.one_machine.specs.declared.state.End.TheVariants.{Going};
-ghost use Rattle.one_machine.specs.Runs.{end_of};
+ghost use Rattle.thin_machine.specs.declared.state.End.TheVariants.{Going};
+ghost use Rattle.thin_machine.specs.Runs.{end_of};
 ghost use Rattle.cjvm_io.specs.Sinks.{shown};
 ghost use Rattle.one_jvm.specs.Runs.{RanTo};
 
 use crate::outcome::Stop;
 use cjvm_io::{Sink, write_all};
 use jvm_base::NoMemory;
-use one_machine::{Choice, End, Machine, NO_NAME, Order, StepErr};
+use thin_machine::{Choice, End, Machine, NO_NAME, Order, StepErr};
 use std::alloc::Global;
 use thin_file::ThinCode;
 use thiserror::Error;

@@ -18,7 +18,7 @@ use crate::report::write_refusal;
 use crate::running::run_program;
 use crate::words::{name_of, read_words};
 use cjvm_io::{Failed, Shelf, Sink, write_all};
-use one_machine::Order;
+use thin_machine::Order;
 use std::alloc::Global;
 use thin_file::ThinCode;
 

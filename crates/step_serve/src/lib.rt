@@ -23,3 +23,4 @@ pub use faults::Server;
 pub use locks::retake;
 pub use names::Names;
 pub use serving::serve;
+pub use telling::quiet;

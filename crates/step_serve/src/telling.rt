@@ -63,8 +63,8 @@ pub(crate) fn plain(wish: Wish, effects: Effects, answer: Answer) -> Served
     }
 }
 
-/// What is told of a deed that changes nothing.
-pub(crate) fn quiet(wish: Wish, value: Option<Value>) -> Served
+/// What is told of a deed that changes nothing: its answer, for the choice that is wished.
+pub fn quiet(wish: Wish, value: Option<Value>) -> Served
     ensures { (heap : Heap) (d : Deed) → IsPlain heap Nothing (Gives value) d → Tells heap wish d result }
 {
     plain(wish, Effects::Nothing, Answer::Gives(value))

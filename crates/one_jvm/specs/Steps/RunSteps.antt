@@ -2,9 +2,9 @@
 use Rattle.std.specs.Prelude.{◌≡◌, ℕ, ◌<◌, ◌++◌, List, length, Option, Result, Ok, Err}
 use Rattle.std.specs.Io.KnownBytes.{Appends}
 use Rattle.thin_file.specs.declared.thin.ThinCode.{ThinCode}
-use Rattle.one_machine.specs.Steps.Acts.{steps_of}
-use Rattle.one_machine.specs.Sound.{IsSound}
-use Rattle.one_machine.specs.Runs.{LeadsTo}
+use Rattle.thin_machine.specs.Steps.Acts.{steps_of}
+use Rattle.thin_machine.specs.Sound.{IsSound}
+use Rattle.thin_machine.specs.Runs.{LeadsTo}
 use Rattle.one_jvm.specs.declared.running.Broken.{Broken}
 use Rattle.one_jvm.specs.declared.running.Broken.TheVariants.{WriteFault, NoMemory}
 use Rattle.one_jvm.specs.declared.running.Run.{Run}

@@ -1,5 +1,5 @@
 use Rattle.std.proofs.Common.{◌+◌, ◌-◌, length}
-use Rattle.one_machine.specs.Steps.Acts.{steps_of}
+use Rattle.thin_machine.specs.Steps.Acts.{steps_of}
 use Rattle.one_jvm.proofs.RunLoop.{GoesOn}
 use Rattle.one_jvm.proofs.running.run_program.Given as goal
 

@@ -1,5 +1,5 @@
-use Rattle.one_machine.specs.Runs.{any_choice}
-use Rattle.one_machine.proofs.Reasons.{going_enabled}
+use Rattle.thin_machine.specs.Runs.{any_choice}
+use Rattle.thin_machine.proofs.Reasons.{going_enabled}
 use Rattle.one_jvm.proofs.RunLoop.{more, not_refused}
 use Rattle.one_jvm.proofs.running.Run.step.Goals as goal
 

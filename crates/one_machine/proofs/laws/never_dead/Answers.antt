@@ -1,5 +1,0 @@
-use Rattle.one_machine.proofs.Orders.{is_never_dead}
-use Rattle.one_machine.proofs.laws.never_dead.Goals as goal
-
-pub returns : goal.returns
-returns c = is_never_dead
