@@ -20,6 +20,7 @@ use std::alloc::Global;
 
 /// What serves a request: the program, what its objects hold at first, which names are taken, and which
 /// choice is followed.
+#[derive(Drop)]
 pub struct Server<'a, N> {
     pub image: &'a Image,
     pub blanks: &'a Blanks,

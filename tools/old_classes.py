@@ -1,0 +1,31 @@
+"""Compiles Java sources to class files of version 46.
+
+    python3 tools/old_classes.py FOLDER SOURCE..
+
+javac of this day writes version 52 at the least (--release 8). What it writes for code without lambdas, string `+`
+and the like differs from older files in the number alone, and in attributes that older machines skip. So bytes 4 to
+7 of each file are set to version 46.0.
+"""
+
+import pathlib
+import subprocess
+import sys
+
+VERSION = bytes([0, 0, 0, 46])
+
+
+def main(folder, sources):
+    pathlib.Path(folder).mkdir(parents=True, exist_ok=True)
+    subprocess.run(
+        ["javac", "--release", "8", "-g:none", "-XDstringConcat=inline", "-d", folder, *sources],
+        check=True,
+        stderr=subprocess.DEVNULL,
+    )
+    for path in sorted(pathlib.Path(folder).glob("*.class")):
+        data = path.read_bytes()
+        path.write_bytes(data[:4] + VERSION + data[8:])
+        print(path.name)
+
+
+if __name__ == "__main__":
+    main(sys.argv[1], sys.argv[2:])
