@@ -1,0 +1,9 @@
+pub mod Boot
+pub mod Strings
+pub mod Constants
+pub mod Starts
+pub mod Mains
+pub mod Entries
+pub mod Natives
+pub mod Premises
+pub mod Coded
