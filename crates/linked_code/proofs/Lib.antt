@@ -1,0 +1,11 @@
+pub mod Targets
+pub mod Codes
+pub mod Texts
+pub mod Arrays
+pub mod Lookups
+pub mod Uses
+pub mod Named
+pub mod Members
+pub mod Instances
+pub mod Objects
+pub mod Links
