@@ -7,3 +7,5 @@ pub mod Receiving
 pub mod TextLaws
 pub mod IntrinsicLaws
 pub mod TopLaws
+pub mod Outward
+pub mod Going

@@ -4,3 +4,4 @@ pub mod Depth
 pub mod Texts
 pub mod Arguments
 pub mod Tops
+pub mod Ways

@@ -12,6 +12,7 @@ ghost use Rattle.program_reads.specs.Whole.{IsWhole};
 ghost use Rattle.step_plan.specs.Condition.{CanPlanAt, CanPlanIn};
 ghost use Rattle.step_plan.specs.Depth.{who_at};
 ghost use Rattle.step_plan.specs.Shown.{shown, shown_next};
+ghost use Rattle.step_plan.specs.Ways.{GoesBy};
 
 use crate::calls::call_plan;
 use crate::fields::shared_plan;
@@ -89,7 +90,8 @@ fn instruction_plan<T: Texts>(
     requires within { frame.now.method < length site.now.image.now.methods }
     requires here { instruction_at site.now.image.now frame.now.method frame.now.at ≡ Some placed.now }
     requires can { CanPlanAt site.now.image.now frame.now placed.now }
-    ensures { IfOk result (λ r. shown site.now.image.now (Some frame.now) r ≡ instruction_plan site.now.image.now (who_at site.now (T.known texts.now)) frame.now placed.now (target_of site.now.image.now frame.now.method frame.now.at)) }
+    ensures plan { IfOk result (λ r. shown site.now.image.now (Some frame.now) r ≡ instruction_plan site.now.image.now (who_at site.now (T.known texts.now)) frame.now placed.now (target_of site.now.image.now frame.now.method frame.now.at)) }
+    ensures goes { IfOk result (λ r. GoesBy site.now.image.now (Some frame.now) r.next) }
 {
     let given = given_to(site.image, frame, &placed.op);
     match answer_at(placed, frame, given) {
@@ -112,7 +114,8 @@ fn body_plan<T: Texts>(
     requires kept { IsKept site.now.image.now site.now.tables.now }
     requires body { frame.now.phase ≡ phase.Body }
     requires can { CanPlanIn site.now.image.now frame.now }
-    ensures { IfOk result (λ r. shown site.now.image.now (Some frame.now) r ≡ body_plan site.now.image.now (who_at site.now (T.known texts.now)) frame.now) }
+    ensures plan { IfOk result (λ r. shown site.now.image.now (Some frame.now) r ≡ body_plan site.now.image.now (who_at site.now (T.known texts.now)) frame.now) }
+    ensures goes { IfOk result (λ r. GoesBy site.now.image.now (Some frame.now) r.next) }
 {
     match instruction_at(site.image, frame.method, frame.at) {
         Some(placed) => instruction_plan(alloc, site, texts, frame, placed),
@@ -129,7 +132,8 @@ pub(crate) fn frame_plan<T: Texts>(
 ) -> Result<Plan, NoMemory>
     requires kept { IsKept site.now.image.now site.now.tables.now }
     requires can { CanPlanIn site.now.image.now frame.now }
-    ensures { IfOk result (λ r. shown site.now.image.now (Some frame.now) r ≡ frame_plan site.now.image.now (who_at site.now (T.known texts.now)) frame.now frame.now.phase frame.now.lock) }
+    ensures plan { IfOk result (λ r. shown site.now.image.now (Some frame.now) r ≡ frame_plan site.now.image.now (who_at site.now (T.known texts.now)) frame.now frame.now.phase frame.now.lock) }
+    ensures goes { IfOk result (λ r. GoesBy site.now.image.now (Some frame.now) r.next) }
 {
     match (frame.phase, frame.lock) {
         (Phase::Lock, Some(lock)) => Ok(plain(Next::Needs(Request::Enter(lock)))),

@@ -9,6 +9,7 @@ ghost use Rattle.machine_state.specs.Next.{Needs};
 ghost use Rattle.step_plan.specs.Depth.{who_at};
 ghost use Rattle.step_plan.specs.Shown.{shown_next};
 ghost use Rattle.step_plan.specs.Texts.{seen_shown};
+ghost use Rattle.step_plan.specs.Ways.{IsNoMove};
 
 use crate::intrinsic::Shown;
 use crate::plan::{Next, fault};
@@ -30,7 +31,8 @@ pub(crate) fn filled<T: Texts>(
     object: Name,
     value: Value,
 ) -> Result<Next, NoMemory>
-    ensures { IfOk result (λ r. (p : Linked) (f : Called) → shown_next p (Some f) r ≡ filled (who_at site.now (T.known texts.now)) number object value) }
+    ensures next { IfOk result (λ r. (p : Linked) (f : Called) → shown_next p (Some f) r ≡ filled (who_at site.now (T.known texts.now)) number object value) }
+    ensures still { IfOk result (λ r. IsNoMove r) }
 {
     let Value::Ref(string) = value else {
         return Ok(fault(boot::NULL_POINTER));
@@ -52,7 +54,8 @@ pub(crate) fn append<T: Texts>(
     object: Name,
     value: Value,
 ) -> Result<Next, NoMemory>
-    ensures { IfOk result (λ r. (p : Linked) (f : Called) → shown_next p (Some f) r ≡ with_shown (who_at site.now (T.known texts.now)) (seen_shown shown) value (λ us. Needs (Buffer object number us))) }
+    ensures next { IfOk result (λ r. (p : Linked) (f : Called) → shown_next p (Some f) r ≡ with_shown (who_at site.now (T.known texts.now)) (seen_shown shown) value (λ us. Needs (Buffer object number us))) }
+    ensures still { IfOk result (λ r. IsNoMove r) }
 {
     match shown_text(alloc, texts, shown, value)? {
         Text::Known(units) => Ok(Next::Needs(Request::Buffer(object, number, units))),
@@ -69,7 +72,8 @@ pub(crate) fn print<T: Texts>(
     shown: Shown,
     value: Value,
 ) -> Result<Next, NoMemory>
-    ensures { IfOk result (λ r. (p : Linked) (f : Called) → shown_next p (Some f) r ≡ with_shown (who_at site.now (T.known texts.now)) (seen_shown shown) value (λ us. Needs (Print us))) }
+    ensures next { IfOk result (λ r. (p : Linked) (f : Called) → shown_next p (Some f) r ≡ with_shown (who_at site.now (T.known texts.now)) (seen_shown shown) value (λ us. Needs (Print us))) }
+    ensures still { IfOk result (λ r. IsNoMove r) }
 {
     match shown_text(alloc, texts, shown, value)? {
         Text::Known(units) => Ok(Next::Needs(Request::Print(units))),
@@ -86,7 +90,8 @@ pub(crate) fn print_line<T: Texts>(
     shown: Shown,
     value: Value,
 ) -> Result<Next, NoMemory>
-    ensures { IfOk result (λ r. (p : Linked) (f : Called) → shown_next p (Some f) r ≡ with_shown (who_at site.now (T.known texts.now)) (seen_shown shown) value (λ us. Needs (Print (us ++ line_end)))) }
+    ensures next { IfOk result (λ r. (p : Linked) (f : Called) → shown_next p (Some f) r ≡ with_shown (who_at site.now (T.known texts.now)) (seen_shown shown) value (λ us. Needs (Print (us ++ line_end)))) }
+    ensures still { IfOk result (λ r. IsNoMove r) }
 {
     match shown_text(alloc, texts, shown, value)? {
         Text::Known(mut units) => {

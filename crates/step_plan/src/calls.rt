@@ -9,6 +9,7 @@ ghost use Rattle.program_reads.specs.Whole.{IsWhole};
 ghost use Rattle.step_plan.specs.Condition.{HasOperands};
 ghost use Rattle.step_plan.specs.Depth.{who_at};
 ghost use Rattle.step_plan.specs.Shown.{shown, shown_next};
+ghost use Rattle.step_plan.specs.Ways.{IsNoMove, IsOfCall};
 
 use crate::intrinsics::calls_intrinsic;
 use crate::lookups::{is_direct, method_named};
@@ -25,6 +26,7 @@ use program_reads::{boot, select, super_of};
 use std::alloc::Global;
 
 /// A call of the method of a number, with so many values.
+#[tactic(auto, using(crate::proofs::Going::called_still))]
 fn runs_method<T: Texts>(
     alloc: Global,
     site: &Site<'_>,
@@ -34,7 +36,8 @@ fn runs_method<T: Texts>(
     method: u32,
 ) -> Result<Next, NoMemory>
     requires enough { count ≤ length frame.now.stack.values }
-    ensures { IfOk result (λ r. shown_next site.now.image.now (Some frame.now) r ≡ runs_method site.now.image.now (who_at site.now (T.known texts.now)) frame.now method (call_values count frame.now.stack.values)) }
+    ensures next { IfOk result (λ r. shown_next site.now.image.now (Some frame.now) r ≡ runs_method site.now.image.now (who_at site.now (T.known texts.now)) frame.now method (call_values count frame.now.stack.values)) }
+    ensures still { IfOk result (λ r. IsNoMove r) }
 {
     if method >= site.image.methods() {
         return Ok(fault(boot::ABSTRACT_METHOD));
@@ -56,7 +59,8 @@ fn runs_selected<T: Texts>(
     selected: Selected,
 ) -> Result<Next, NoMemory>
     requires enough { count ≤ length frame.now.stack.values }
-    ensures { IfOk result (λ r. shown_next site.now.image.now (Some frame.now) r ≡ runs_selected site.now.image.now (who_at site.now (T.known texts.now)) frame.now (call_values count frame.now.stack.values) selected) }
+    ensures next { IfOk result (λ r. shown_next site.now.image.now (Some frame.now) r ≡ runs_selected site.now.image.now (who_at site.now (T.known texts.now)) frame.now (call_values count frame.now.stack.values) selected) }
+    ensures still { IfOk result (λ r. IsNoMove r) }
 {
     match selected {
         Selected::Found(method) => runs_method(alloc, site, texts, frame, count, method),
@@ -77,7 +81,8 @@ fn special_call<T: Texts>(
 ) -> Result<Next, NoMemory>
     requires enough { count ≤ length frame.now.stack.values }
     requires named { method < length site.now.image.now.methods }
-    ensures { IfOk result (λ r. shown_next site.now.image.now (Some frame.now) r ≡ special_call site.now.image.now (who_at site.now (T.known texts.now)) frame.now method (call_values count frame.now.stack.values)) }
+    ensures next { IfOk result (λ r. shown_next site.now.image.now (Some frame.now) r ≡ special_call site.now.image.now (who_at site.now (T.known texts.now)) frame.now method (call_values count frame.now.stack.values)) }
+    ensures still { IfOk result (λ r. IsNoMove r) }
 {
     let current = owner_of(site.image, frame.method);
     if is_initialiser(site.image, method) || is_direct(site.image, current, method) {
@@ -103,7 +108,8 @@ fn selected_call<T: Texts>(
 ) -> Result<Next, NoMemory>
     requires enough { count ≤ length frame.now.stack.values }
     requires named { method < length site.now.image.now.methods }
-    ensures { IfOk result (λ r. shown_next site.now.image.now (Some frame.now) r ≡ selected_call site.now.image.now (who_at site.now (T.known texts.now)) frame.now op method (call_values count frame.now.stack.values) receiver) }
+    ensures next { IfOk result (λ r. shown_next site.now.image.now (Some frame.now) r ≡ selected_call site.now.image.now (who_at site.now (T.known texts.now)) frame.now op method (call_values count frame.now.stack.values) receiver) }
+    ensures still { IfOk result (λ r. IsNoMove r) }
 {
     let interface = op == opcode::INVOKEINTERFACE;
     let selected = select(site.image, receiver.class, method, interface);
@@ -124,7 +130,8 @@ fn receiver_call<T: Texts>(
     requires some { 0 < count }
     requires enough { count ≤ length frame.now.stack.values }
     requires named { method < length site.now.image.now.methods }
-    ensures { IfOk result (λ r. shown_next site.now.image.now (Some frame.now) r ≡ receiver_call site.now.image.now (who_at site.now (T.known texts.now)) frame.now op method (call_values count frame.now.stack.values)) }
+    ensures next { IfOk result (λ r. shown_next site.now.image.now (Some frame.now) r ≡ receiver_call site.now.image.now (who_at site.now (T.known texts.now)) frame.now op method (call_values count frame.now.stack.values)) }
+    ensures still { IfOk result (λ r. IsNoMove r) }
 {
     let Some(Value::Ref(receiver)) = frame.stack.get(count - 1) else {
         return Ok(Next::Stuck);
@@ -137,6 +144,7 @@ fn receiver_call<T: Texts>(
 }
 
 /// A call; `invokestatic` asks for the class of its method.
+#[tactic(auto, using(crate::proofs::Going::no_move_of_call))]
 pub(crate) fn call_plan<T: Texts>(
     alloc: Global,
     site: &Site<'_>,
@@ -148,7 +156,8 @@ pub(crate) fn call_plan<T: Texts>(
     requires within { frame.now.method < length site.now.image.now.methods }
     requires few { HasFewArguments op.now }
     requires enough { HasOperands op.now frame.now.stack.values }
-    ensures { IfOk result (λ r. shown site.now.image.now (Some frame.now) r ≡ call_plan site.now.image.now (who_at site.now (T.known texts.now)) frame.now op.now (target_of site.now.image.now frame.now.method frame.now.at) frame.now.stack.values) }
+    ensures plan { IfOk result (λ r. shown site.now.image.now (Some frame.now) r ≡ call_plan site.now.image.now (who_at site.now (T.known texts.now)) frame.now op.now (target_of site.now.image.now frame.now.method frame.now.at) frame.now.stack.values) }
+    ensures call { IfOk result (λ r. IsOfCall op.now r.next) }
 {
     let Op::Invoke { op, item: _, desc } = op else {
         return Ok(plain(Next::Stuck));

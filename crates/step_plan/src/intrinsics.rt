@@ -11,6 +11,7 @@ ghost use Rattle.step_plan.specs.Arguments.{two_of};
 ghost use Rattle.step_plan.specs.Depth.{who_at};
 ghost use Rattle.step_plan.specs.Shown.{shown_next};
 ghost use Rattle.step_plan.specs.Texts.{seen, seen_object, seen_argument};
+ghost use Rattle.step_plan.specs.Ways.{IsNoMove};
 
 use crate::buffers::{append, filled, print, print_line};
 use crate::intrinsic::{Intrinsic, OnArgument, OnObject, intrinsic_of};
@@ -37,7 +38,8 @@ fn on_argument<T: Texts>(
     object: Name,
     value: Value,
 ) -> Result<Next, NoMemory>
-    ensures { IfOk result (λ r. (f : Called) → shown_next site.now.image.now (Some f) r ≡ intrinsic_call site.now.image.now (who_at site.now (T.known texts.now)) number f (seen_argument intrinsic) (Ref object ∷ value ∷ [])) }
+    ensures next { IfOk result (λ r. (f : Called) → shown_next site.now.image.now (Some f) r ≡ intrinsic_call site.now.image.now (who_at site.now (T.known texts.now)) number f (seen_argument intrinsic) (Ref object ∷ value ∷ [])) }
+    ensures still { IfOk result (λ r. IsNoMove r) }
 {
     match (intrinsic, value) {
         (OnArgument::CharAt, Value::Int(index)) => Ok(char_at(texts, object, index)),
@@ -62,7 +64,8 @@ fn value_of<T: Texts>(
     value: Value,
     behind: Option<Value>,
 ) -> Result<Next, NoMemory>
-    ensures { IfOk result (λ r. (f : Called) → shown_next site.now.image.now (Some f) r ≡ intrinsic_call site.now.image.now (who_at site.now (T.known texts.now)) number f machine.ValueOf (value ∷ option_to_list behind)) }
+    ensures next { IfOk result (λ r. (f : Called) → shown_next site.now.image.now (Some f) r ≡ intrinsic_call site.now.image.now (who_at site.now (T.known texts.now)) number f machine.ValueOf (value ∷ option_to_list behind)) }
+    ensures still { IfOk result (λ r. IsNoMove r) }
 {
     match value {
         Value::Int(_) => Ok(Next::Needs(Request::MakeText(number_text(alloc, value)?))),
@@ -81,7 +84,8 @@ fn on_object<T: Texts>(
     object: Name,
     behind: Option<Value>,
 ) -> Result<Next, NoMemory>
-    ensures { IfOk result (λ r. (f : Called) → shown_next site.now.image.now (Some f) r ≡ intrinsic_call site.now.image.now (who_at site.now (T.known texts.now)) number f (seen_object intrinsic) (Ref object ∷ option_to_list behind)) }
+    ensures next { IfOk result (λ r. (f : Called) → shown_next site.now.image.now (Some f) r ≡ intrinsic_call site.now.image.now (who_at site.now (T.known texts.now)) number f (seen_object intrinsic) (Ref object ∷ option_to_list behind)) }
+    ensures still { IfOk result (λ r. IsNoMove r) }
 {
     Ok(match intrinsic {
         OnObject::Wait => Next::Needs(Request::Wait(object)),
@@ -109,7 +113,8 @@ fn intrinsic_call<T: Texts>(
     first: Option<Value>,
     second: Option<Value>,
 ) -> Result<Next, NoMemory>
-    ensures { IfOk result (λ r. (f : Called) → shown_next site.now.image.now (Some f) r ≡ intrinsic_call site.now.image.now (who_at site.now (T.known texts.now)) number f (seen intrinsic) (two_of first second)) }
+    ensures next { IfOk result (λ r. (f : Called) → shown_next site.now.image.now (Some f) r ≡ intrinsic_call site.now.image.now (who_at site.now (T.known texts.now)) number f (seen intrinsic) (two_of first second)) }
+    ensures still { IfOk result (λ r. IsNoMove r) }
 {
     match (intrinsic, first, second) {
         (Intrinsic::CurrentThread, _, _) => { Ok(Next::Answered(Some(Value::Ref(site.object)))) }
@@ -137,7 +142,8 @@ pub(crate) fn calls_intrinsic<T: Texts>(
     number: u8,
 ) -> Result<Next, NoMemory>
     requires { count ≤ length frame.now.stack.values }
-    ensures { IfOk result (λ r. shown_next site.now.image.now (Some frame.now) r ≡ calls_intrinsic site.now.image.now (who_at site.now (T.known texts.now)) number frame.now (call_values count frame.now.stack.values)) }
+    ensures next { IfOk result (λ r. shown_next site.now.image.now (Some frame.now) r ≡ calls_intrinsic site.now.image.now (who_at site.now (T.known texts.now)) number frame.now (call_values count frame.now.stack.values)) }
+    ensures still { IfOk result (λ r. IsNoMove r) }
 {
     let Some(intrinsic) = intrinsic_of(number) else {
         return Ok(Next::Stuck);

@@ -9,6 +9,7 @@ ghost use Rattle.machine_state.specs.IntrinsicCalls.{char_at, same_as, joined, b
 ghost use Rattle.machine_state.specs.Next.{Wants, answers};
 ghost use Rattle.step_plan.specs.Depth.{who_at};
 ghost use Rattle.step_plan.specs.Shown.{shown_next};
+ghost use Rattle.step_plan.specs.Ways.{IsNoMove};
 
 use crate::plan::{Next, fault};
 use crate::site::Site;
@@ -28,7 +29,8 @@ fn count_value(count: usize) -> Value
 
 /// The length of a text.
 pub(crate) fn text_length<T: Texts>(texts: &T, object: Name) -> Next
-    ensures { (p : Linked) (f : Called) → shown_next p (Some f) result ≡ from (Wants object) (λ us. answers p f (Some (count_value (length us)))) (T.known texts.now object) }
+    ensures next { (p : Linked) (f : Called) → shown_next p (Some f) result ≡ from (Wants object) (λ us. answers p f (Some (count_value (length us)))) (T.known texts.now object) }
+    ensures still { IsNoMove result }
 {
     match texts.text(object) {
         Some(units) => Next::Answered(Some(count_value(units.len()))),
@@ -38,7 +40,8 @@ pub(crate) fn text_length<T: Texts>(texts: &T, object: Name) -> Next
 
 /// The unit at an index.
 fn unit_at(units: &[u16], index: i32) -> Next
-    ensures { (p : Linked) (f : Called) → shown_next p (Some f) result ≡ char_at p f units.now index }
+    ensures next { (p : Linked) (f : Called) → shown_next p (Some f) result ≡ char_at p f units.now index }
+    ensures still { IsNoMove result }
 {
     if index < 0 {
         return fault(boot::STRING_INDEX);
@@ -51,7 +54,8 @@ fn unit_at(units: &[u16], index: i32) -> Next
 
 /// The unit of a text at an index.
 pub(crate) fn char_at<T: Texts>(texts: &T, object: Name, index: i32) -> Next
-    ensures { (p : Linked) (f : Called) → shown_next p (Some f) result ≡ from (Wants object) (λ us. char_at p f us index) (T.known texts.now object) }
+    ensures next { (p : Linked) (f : Called) → shown_next p (Some f) result ≡ from (Wants object) (λ us. char_at p f us index) (T.known texts.now object) }
+    ensures still { IsNoMove result }
 {
     match texts.text(object) {
         Some(units) => unit_at(units, index),
@@ -68,7 +72,8 @@ fn bool_value(holds: bool) -> Value
 
 /// Whether an object is a String of a text.
 fn same_as<T: Texts>(site: &Site<'_>, texts: &T, units: &[u16], value: Value) -> Next
-    ensures { (p : Linked) (f : Called) → shown_next p (Some f) result ≡ same_as p (who_at site.now (T.known texts.now)) f units.now value }
+    ensures next { (p : Linked) (f : Called) → shown_next p (Some f) result ≡ same_as p (who_at site.now (T.known texts.now)) f units.now value }
+    ensures still { IsNoMove result }
 {
     match value {
         Value::Ref(object) if object.class == boot::STRING => match texts.text(object) {
@@ -81,7 +86,8 @@ fn same_as<T: Texts>(site: &Site<'_>, texts: &T, units: &[u16], value: Value) ->
 
 /// Whether an object is a String of the text of another one.
 pub(crate) fn same_text<T: Texts>(site: &Site<'_>, texts: &T, object: Name, value: Value) -> Next
-    ensures { (p : Linked) (f : Called) → shown_next p (Some f) result ≡ from (Wants object) (λ us. same_as p (who_at site.now (T.known texts.now)) f us value) (T.known texts.now object) }
+    ensures next { (p : Linked) (f : Called) → shown_next p (Some f) result ≡ from (Wants object) (λ us. same_as p (who_at site.now (T.known texts.now)) f us value) (T.known texts.now object) }
+    ensures still { IsNoMove result }
 {
     match texts.text(object) {
         Some(units) => same_as(site, texts, units, value),
@@ -97,7 +103,8 @@ fn behind<T: Texts>(
     units: &[u16],
     value: Value,
 ) -> Result<Next, NoMemory>
-    ensures { IfOk result (λ r. (p : Linked) (f : Called) → shown_next p (Some f) r ≡ joined (who_at site.now (T.known texts.now)) units.now value) }
+    ensures next { IfOk result (λ r. (p : Linked) (f : Called) → shown_next p (Some f) r ≡ joined (who_at site.now (T.known texts.now)) units.now value) }
+    ensures still { IfOk result (λ r. IsNoMove r) }
 {
     let Value::Ref(object) = value else {
         return Ok(fault(boot::NULL_POINTER));
@@ -116,7 +123,8 @@ pub(crate) fn concat<T: Texts>(
     object: Name,
     value: Value,
 ) -> Result<Next, NoMemory>
-    ensures { IfOk result (λ r. (p : Linked) (f : Called) → shown_next p (Some f) r ≡ from (Wants object) (λ us. joined (who_at site.now (T.known texts.now)) us value) (T.known texts.now object)) }
+    ensures next { IfOk result (λ r. (p : Linked) (f : Called) → shown_next p (Some f) r ≡ from (Wants object) (λ us. joined (who_at site.now (T.known texts.now)) us value) (T.known texts.now object)) }
+    ensures still { IfOk result (λ r. IsNoMove r) }
 {
     match texts.text(object) {
         Some(units) => behind(alloc, site, texts, units, value),

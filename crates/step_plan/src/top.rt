@@ -11,6 +11,7 @@ ghost use Rattle.step_plan.specs.Condition.{CanPlan};
 ghost use Rattle.step_plan.specs.Depth.{stepper, who_at};
 ghost use Rattle.step_plan.specs.Shown.{shown, top_frame};
 ghost use Rattle.step_plan.specs.Tops.{running_on, raising_on};
+ghost use Rattle.step_plan.specs.Ways.{GoesBy};
 
 use crate::bodies::frame_plan;
 use crate::plan::{Next, Plan, asking, fault, plain};
@@ -81,7 +82,8 @@ fn top(levels: &[Level]) -> Option<&Level>
 fn running_plan<T: Texts>(alloc: Global, site: &Site<'_>, texts: &T) -> Result<Plan, NoMemory>
     requires kept { IsKept site.now.image.now site.now.tables.now }
     requires can { CanPlan site.now.image.now (reverse site.now.levels.now) }
-    ensures { IfOk result (λ r. shown site.now.image.now (top_frame (reverse site.now.levels.now)) r ≡ running_on site.now.image.now (who_at site.now (T.known texts.now)) (slice_get (reverse site.now.levels.now) 0)) }
+    ensures plan { IfOk result (λ r. shown site.now.image.now (top_frame (reverse site.now.levels.now)) r ≡ running_on site.now.image.now (who_at site.now (T.known texts.now)) (slice_get (reverse site.now.levels.now) 0)) }
+    ensures goes { IfOk result (λ r. GoesBy site.now.image.now (top_frame (reverse site.now.levels.now)) r.next) }
 {
     match top(site.levels) {
         None => Ok(plain(Next::Needs(Request::Finish(None)))),
@@ -93,7 +95,8 @@ fn running_plan<T: Texts>(alloc: Global, site: &Site<'_>, texts: &T) -> Result<P
 /// A thread that raises an exception.
 fn raising_plan(site: &Site<'_>, exception: Name) -> Plan
     requires { IsKept site.now.image.now site.now.tables.now }
-    ensures { shown site.now.image.now (top_frame (reverse site.now.levels.now)) result ≡ raising_on site.now.image.now exception (slice_get (reverse site.now.levels.now) 0) }
+    ensures plan { shown site.now.image.now (top_frame (reverse site.now.levels.now)) result ≡ raising_on site.now.image.now exception (slice_get (reverse site.now.levels.now) 0) }
+    ensures goes { GoesBy site.now.image.now (top_frame (reverse site.now.levels.now)) result.next }
 {
     plain(match top(site.levels) {
         None => Next::Needs(Request::Finish(Some(exception))),
@@ -114,7 +117,8 @@ pub fn plan_of<T: Texts>(
 ) -> Result<Plan, NoMemory>
     requires kept { IsKept image.now tables.now }
     requires can { CanPlan image.now (reverse levels.now) }
-    ensures { IfOk result (λ r. shown image.now (top_frame (reverse levels.now)) r ≡ plan image.now (stepper who.now.first who.now.object who.now.base levels.now (T.known who.now.texts.now)) mode (reverse levels.now)) }
+    ensures plan { IfOk result (λ r. shown image.now (top_frame (reverse levels.now)) r ≡ plan image.now (stepper who.now.first who.now.object who.now.base levels.now (T.known who.now.texts.now)) mode (reverse levels.now)) }
+    ensures goes { IfOk result (λ r. GoesBy image.now (top_frame (reverse levels.now)) r.next) }
 {
     let site = Site {
         image,

@@ -13,6 +13,7 @@ ghost use Rattle.program_reads.specs.Whole.{IsWhole};
 ghost use Rattle.step_plan.specs.Depth.{who_at};
 ghost use Rattle.step_plan.specs.Shown.{shown, shown_next};
 ghost use Rattle.step_plan.specs.declared.plan.Next.TheVariants as told;
+ghost use Rattle.step_plan.specs.Ways.{GoesBy};
 
 use crate::plan::{Next, Plan};
 use crate::site::{Site, calls};
@@ -46,8 +47,9 @@ fn unwinds(frame: &Frame) -> Next
 /// An exception at a frame.
 pub(crate) fn raises_in(image: &Image, frame: &Frame, exception: Name) -> Next
     requires { IsWhole image.now }
-    ensures { shown_next image.now (Some frame.now) result
+    ensures next { shown_next image.now (Some frame.now) result
         ≡ from (unwinds frame.now.phase frame.now.lock) (handled frame.now exception) (handler_for image.now frame.now exception) }
+    ensures goes { GoesBy image.now (Some frame.now) result }
 {
     match handler_for(image, frame, exception) {
         Some(at) => Next::Caught { exception, at },

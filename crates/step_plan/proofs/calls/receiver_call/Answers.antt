@@ -8,8 +8,8 @@ use Rattle.step_plan.specs.Shown.{shown_next}
 use Rattle.step_plan.proofs.Receiving.{receiver_selected}
 use Rattle.step_plan.proofs.calls.receiver_call.Goals as goal
 
-pub returns-else-op-eq-INVOKESPECIAL : goal.returns-else-op-eq-INVOKESPECIAL
-returns-else-op-eq-INVOKESPECIAL g c =
+pub returns-else-op-eq-INVOKESPECIAL-clause-next : goal.returns-else-op-eq-INVOKESPECIAL-clause-next
+returns-else-op-eq-INVOKESPECIAL-clause-next g c =
     let p = c.args.site.now.image.now in
     let who = who_at c.args.site.now (g.T.Texts.known c.args.texts.now) in
     let f = c.args.frame.now in
@@ -20,4 +20,4 @@ returns-else-op-eq-INVOKESPECIAL g c =
       | inl w ↦ absurd (c.if-op-eq-INVOKESPECIAL.false w.1)
       | inr w ↦ w.0
     ] in
-    subst (λ q. IfOk c.selected_call.result (λ r. shown_next p (Some f) r ≡ q)) (sym (receiver_selected p who f c.args.op c.args.method c.args.count vs c.in-Some-Ref.receiver c.requires.some c.requires.enough at other)) c.selected_call.ensures
+    subst (λ q. IfOk c.selected_call.result (λ r. shown_next p (Some f) r ≡ q)) (sym (receiver_selected p who f c.args.op c.args.method c.args.count vs c.in-Some-Ref.receiver c.requires.some c.requires.enough at other)) c.selected_call.ensures.next
