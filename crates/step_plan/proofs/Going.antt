@@ -4,7 +4,10 @@ use Rattle.jvm_base.specs.Words.{from}
 use Rattle.jvm_base.specs.declared.value.Value.{Value}
 use Rattle.jvm_base.specs.declared.frame.Frame.{Frame}
 use Rattle.code_table.specs.declared.op.Op.{Op}
+use Rattle.code_table.specs.declared.code.Placed.{Placed}
 use Rattle.program_image.specs.Program.{Program}
+use Rattle.program_image.specs.Words.{instruction_at}
+use Rattle.frame_ops.specs.declared.answer.Given.{Given}
 use Rattle.frame_ops.specs.Moves.{frame_after}
 use Rattle.frame_ops.specs.Stepping.{move_at}
 use Rattle.machine_state.specs.Next.{Next, Alone, Stuck, Plan, Who}
@@ -17,17 +20,21 @@ use Rattle.step_plan.specs.Shown.{moves, shown, shown_next}
 use Rattle.step_plan.specs.Ways.{GoesBy, IsInvoke, IsNoMove, IsOfCall}
 use Rattle.step_plan.proofs.Outward.{IsOutward, IsSent, sent_outward, init_sent}
 
+-- a move goes on, or is stuck
+no_outward_move : (given : Given) (f : Frame) (o : Option Placed) → IsOutward (from Stuck (λ i. Alone (frame_after (move_at i given f) i.next f)) o) → ⊥
+no_outward_move given f None h = h
+no_outward_move given f (Some i) h = h
+
 -- where no frame goes on
 pub outward_goes : (p : Program) (f : Frame) (t : Told) (n : Next) → shown_next p (Some f) t ≡ n → IsOutward n → GoesBy p (Some f) t
-outward_goes p f (told.Moves given) n e h = λ i at.
-    let m : moves p given f ≡ Alone (frame_after (move_at i given f) i.next f) = ap (from Stuck (λ j. Alone (frame_after (move_at j given f) j.next f))) at in
-    absurd (subst IsOutward (sym e ∙ m) h)
+outward_goes p f (told.Moves given) n e h = absurd (no_outward_move given f (instruction_at p f.method f.at) (subst IsOutward (sym e) h))
 outward_goes p f (told.Answered v) n e h = absurd (subst IsOutward (sym e) h)
 outward_goes p f _ n e h = tt
 
 -- where a call or a request comes
 pub sent_goes : (p : Program) (f : Option Frame) (t : Told) (n : Next) → shown_next p f t ≡ n → IsSent n → GoesBy p f t
 sent_goes p (Some f) t n e h = outward_goes p f t n e (sent_outward n h)
+sent_goes p None (told.Moves given) n e h = absurd (subst IsSent (sym e) h)
 sent_goes p None (told.Answered v) n e h = absurd (subst IsSent (sym e) h)
 sent_goes p None (told.Caught x at) n e h = absurd (subst IsSent (sym e) h)
 sent_goes p None (told.Leaves v) n e h = absurd (subst IsSent (sym e) h)

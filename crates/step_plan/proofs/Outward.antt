@@ -11,13 +11,14 @@ use Rattle.machine_state.specs.BootClasses.{stack_overflow}
 use Rattle.machine_state.specs.Calls.{calls, max_depth}
 use Rattle.machine_state.specs.Classes.{clinit_of}
 use Rattle.machine_state.specs.Instructions.{returns}
-use Rattle.machine_state.specs.Next.{Next, Alone, Calls, Needs, Who, fault}
+use Rattle.machine_state.specs.Next.{Next, Alone, Calls, Needs, Stuck, Who, fault}
 use Rattle.machine_state.specs.Plan.{unwinds, init_plan}
 use Rattle.machine_state.specs.declared.request.Request.TheVariants.{InitDone}
 
--- no frame that goes on
+-- no frame that goes on, nor one that is stuck
 abbrev pub IsOutward : Next → Type 0
 IsOutward (Alone f) = ⊥
+IsOutward Stuck = ⊥
 IsOutward _ = Unit {0}
 
 -- a call or a request
@@ -29,6 +30,7 @@ IsSent _ = ⊥
 -- so is what is sent
 pub sent_outward : (n : Next) → IsSent n → IsOutward n
 sent_outward (Alone f) h = h
+sent_outward Stuck h = h
 sent_outward _ h = tt
 
 -- an exception that leaves a frame

@@ -11,12 +11,12 @@ use Rattle.machine_state.specs.Instructions.{given_to}
 use Rattle.step_plan.specs.declared.plan.Next.{Next as Told}
 use Rattle.step_plan.specs.declared.plan.Next.TheVariants as told
 
--- the frame's instruction is told what the program tells it
+-- the frame stands at an instruction, which is told what the program tells it
 abbrev pub IsGiven : Program → Given → Option Frame → Type 0
 IsGiven p given (Some f) =
-    (i : Placed) → instruction_at p f.method f.at ≡ Some i →
-    given ≡ given_to p i.op (target_of p f.method f.at) f.stack.values
-IsGiven p given None = Unit {0}
+    (i : Placed) × (instruction_at p f.method f.at ≡ Some i)
+    × (given ≡ given_to p i.op (target_of p f.method f.at) f.stack.values)
+IsGiven p given None = ⊥
 
 -- an instruction that calls a method
 abbrev pub IsInvoke : Op → Type 0

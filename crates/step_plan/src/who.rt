@@ -18,6 +18,7 @@ pub trait Texts {
 
 /// A thread that is about to step: whether it is thread 0, its Thread object, how many frames lie
 /// below the levels that are at hand, and the texts that are known.
+#[derive(Drop)]
 pub struct Who<'a, T> {
     pub first: bool,
     pub object: Name,

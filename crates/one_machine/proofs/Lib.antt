@@ -1,0 +1,5 @@
+pub mod Planning
+pub mod Doing
+pub mod Wishes
+pub mod Ables
+pub mod Founds

@@ -1,0 +1,4 @@
+pub mod Ready
+pub mod Going
+pub mod Doing
+pub mod Found

@@ -1,0 +1,10 @@
+//! The one machine: a whole program's state, and its steps, each of which is done whole or not at all.
+#![tactic(auto)]
+
+mod able;
+mod machine;
+mod perform;
+mod taking;
+
+pub use machine::{Machine, StepErr};
+pub use taking::{Took, Went};
