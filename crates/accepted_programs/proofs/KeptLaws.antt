@@ -33,7 +33,7 @@ use Rattle.typed_code.proofs.Allowing.{fine_ops}
 use Rattle.typed_code.proofs.Kept.{framing_law}
 use Rattle.linked_classes.specs.Linking.{AreRight}
 use Rattle.linked_classes.proofs.Above.{table_law}
-use Rattle.linked_methods.specs.Linking.{AreMethodsRight}
+use Rattle.linked_methods.specs.Linking.{AreMethodsRight, AreRightMembers}
 use Rattle.linked_methods.proofs.Methods.{methods_law}
 use Rattle.accepted_programs.specs.Kept.{KeptLaw}
 use Rattle.accepted_programs.proofs.Reading.{HasByteCode, byte_code, was_read}
@@ -47,7 +47,8 @@ module _ (files : List ClassFile) (main : List ℕ) (formed : All IsClass files)
   tree : IsTree (superclasses (linked files main))
   tree = one_tree files main (record { formed = formed; none = accepted.links })
 
-  right : AreRight files (array_types files) (literals files) (start_of files main)
+  -- classes lie rightly above one another
+  pub right : AreRight files (array_types files) (literals files) (start_of files main)
   right = record {
     right_above = right_above files main accepted.links;
     no_final = no_final files main accepted.links;
@@ -58,8 +59,12 @@ module _ (files : List ClassFile) (main : List ℕ) (formed : All IsClass files)
   classes : AreClassesTyped (linked files main)
   classes = classes_law (linked files main) (table_law files (array_types files) (literals files) (start_of files main) right)
 
+  -- what they declare is of its kind
+  pub members : AreRightMembers files
+  members = record { formed = by_recursion IsClass files formed; right = no_wrong files main accepted.links }
+
   methods : AreMethodsRight (linked files main)
-  methods = methods_law files (array_types files) (literals files) (start_of files main) right (record { formed = by_recursion IsClass files formed; right = no_wrong files main accepted.links })
+  methods = methods_law files (array_types files) (literals files) (start_of files main) right members
 
   -- all classes have code of bytes
   bytes : AllByRecursion HasByteCode (boot_files ++ files)
