@@ -1,21 +1,28 @@
 -- From the files of a call to its verdict.
-use Rattle.std.proofs.Common.{◌≡◌, ℕ, List, Option, Some, None, Err, refl, sym, subst, inl, inr, ⊎_elim, ◌⊎◌}
+use Rattle.std.proofs.Common.{◌≡◌, ℕ, List, [], Option, Some, None, Err, refl, sym, subst, inl, inr, ⊎_elim, ◌⊎◌}
 use Rattle.std.specs.Prelude.{◌≢◌}
 use Rattle.cjvm_io.specs.Shelves.{Files}
 use Rattle.cjvm_io.specs.Sinks.{Showing}
-use Rattle.thin_file.specs.declared.thin.ThinCode.{ThinCode}
-use Rattle.thin_machine.specs.declared.state.Choice.{Choice}
+use Rattle.class_format.specs.Meaning.{IsClass}
+use Rattle.class_format.proofs.Recursion.{all_of}
+use Rattle.machine_state.specs.declared.state.Choice.{Choice}
+use Rattle.one_machine.specs.Ready.{CanRun}
+use Rattle.program_image.specs.Program.{Program}
+use Rattle.runnable_programs.specs.Runnable.{RunnableLaw}
 use Rattle.one_jvm.specs.declared.outcome.Stop.{Stop}
 use Rattle.one_jvm.specs.declared.outcome.Stop.TheVariants as stop
 use Rattle.one_jvm.specs.declared.outcome.Refusal.{Refusal}
-use Rattle.one_jvm.specs.declared.outcome.Refusal.TheVariants.{Usage, File, Link, Flow, NoFile, ReadFault, WriteFault, TooLong, NotYet, NoMemory}
+use Rattle.one_jvm.specs.declared.outcome.Refusal.TheVariants.{Usage, File, Link, Flow, NoFile, ReadFault, WriteFault, TooLong, NoMemory}
 use Rattle.one_jvm.specs.Words.{Asked, IsCall, IsCheck}
-use Rattle.one_jvm.specs.Verdicts.{Names, StopsAt, IsThinProgram, IsVerdict}
-use Rattle.one_jvm.specs.Answers.{Faults, IsAny, IsHindered, Because, Agrees, Wrote, Says, Ran, Accepts, IsAccepted, IsUnwritten, refusal_of, IsToldText, IsSubject}
+use Rattle.one_jvm.specs.Verdicts.{Names, StopsAt, main_of, IsProgram, IsVerdict}
+use Rattle.one_jvm.specs.Answers.{Faults, IsAny, IsHindered, Because, Agrees, Wrote, Says, Ran, Accepts, IsAccepted, IsUnwritten, refusal_of, IsToldText, IsEndText, IsSubject}
 use Rattle.one_jvm.specs.Steps.Loading.{AreFound, RefusesProgram, LoadFails, HasText, HasNoProgram, Programs}
-use Rattle.one_jvm.specs.Steps.Speaking.{IsToldOf, Speaks}
+use Rattle.one_jvm.specs.Steps.RunSteps.{TellsWhole}
+use Rattle.one_jvm.specs.Steps.Speaking.{IsToldOf, IsSilent, Speaks}
 use Rattle.one_jvm.specs.declared.loading.Refused.{Refused}
 use Rattle.one_jvm.specs.Runs.{RanTo}
+use Rattle.one_jvm.proofs.LoadLemmas.{are_classes}
+use Rattle.one_jvm.proofs.RunLoop.{done_silent}
 use Rattle.one_jvm.proofs.WordLemmas.{no_check}
 
 module _ (words : List (List ℕ)) (told : Option Files) (a : Asked) (call : IsCall words a) where
@@ -28,7 +35,6 @@ module _ (words : List (List ℕ)) (told : Option Files) (a : Asked) (call : IsC
   verdict (NoFile k) f = names _ f
   verdict (TooLong k) f = names _ f
   verdict (File k why) f = names _ f
-  verdict NotYet f = names _ f
   verdict (Link e) f = names _ f
   verdict (Flow e) f = names _ f
   verdict Usage f = absurd f.such
@@ -47,17 +53,15 @@ module _ (words : List (List ℕ)) (told : Option Files) (a : Asked) (call : IsC
   fails faults (NoFile k) h = absurd h
   fails faults (TooLong k) h = absurd h
   fails faults WriteFault h = absurd h
-  fails faults NotYet h = absurd h
 
   -- files that are refused
   pub because_refused : (faults : Faults) (r : Refused) → Programs told a faults.read_before faults.read_now (Err r) → Because words told faults (Some r.refusal)
   because_refused faults r p = ⊎_elim (λ f. inl (verdict r.refusal f)) (λ f. inr (fails faults r.refusal f)) p.cause
 
   -- what is told of them
-  tells : (e : Refusal) (text : List ℕ) → HasText told a e text → IsToldOf told words (Some e) text
+  tells : (e : Refusal) (text : List ℕ) → HasText told a e text → IsToldOf told words [] None (Some e) text
   tells (Link e) text f = names (IsToldText (Link e) text) f
   tells (Flow e) text f = names (IsToldText (Flow e) text) f
-  tells NotYet text f = tt
   tells NoMemory text f = tt
   tells Usage text f = tt
   tells (File k why) text f = tt
@@ -67,7 +71,7 @@ module _ (words : List (List ℕ)) (told : Option Files) (a : Asked) (call : IsC
   tells WriteFault text f = tt
 
   -- what is told of files that are refused
-  pub told_refused : (f g : ℕ) (r : Refused) → Programs told a f g (Err r) → IsToldOf told words (Some r.refusal) r.text.items
+  pub told_refused : (f g : ℕ) (r : Refused) → Programs told a f g (Err r) → IsToldOf told words [] None (Some r.refusal) r.text.items
   told_refused f g r p = tells r.refusal r.text.items p.tells
 
   -- files aren't refused for a write
@@ -80,21 +84,55 @@ module _ (words : List (List ℕ)) (told : Option Files) (a : Asked) (call : IsC
 
   -- ---- files whose program is run
 
-  module _ (faults : Faults) (code : ThinCode) (h : AreFound told a.files (IsThinProgram code a)) (before now : Showing)
+  module _ (faults : Faults) (p : Program) (h : AreFound told a.files (IsProgram p a)) (before now : Showing)
       (b : before.faults ≡ faults.wrote_before) (n : now.faults ≡ faults.wrote_now) where
     -- the words' files have the program
-    pub has_program : Names told words (IsThinProgram code)
-    has_program = names (IsThinProgram code) h
+    pub has_program : Names told words (IsProgram p)
+    has_program = names (IsProgram p) h
+
+    -- which can be run
+    pub can_run : RunnableLaw → CanRun p
+    can_run law =
+        let l = h.such.accepted in
+        subst CanRun (sym h.such.is) (law l.classes (main_of a.main l.classes) (all_of IsClass l.classes (are_classes h.contents l.classes l.are)) l.accepted)
+
+    -- a run that no fault cut off
+    ran : IsVerdict told words None
+    ran = inl (p, has_program)
 
     -- why such a call ends so
-    pub because_ran : (s : Stop) (order : List Choice) → RanTo code order before now s → Because words told faults (refusal_of s)
-    because_ran stop.Done order r = inl (inl (code, has_program))
+    pub because_ran : (s : Stop) (order : List Choice) → RanTo p order before now s → Because words told faults (refusal_of s)
+    because_ran stop.Done order r = inl ran
+    because_ran stop.Uncaught order r = inl ran
+    because_ran (stop.StepLimit t) order r = inl ran
+    because_ran stop.Deadlock order r = inl ran
+    because_ran (stop.ThreadsFull t) order r = inl ran
     because_ran stop.WriteFault order r = inr (record { is_call = (a, call); hindrance = WriteFault; strikes = rw (b, n) at r.1; shows = refl })
     because_ran stop.NoMemory order r = inr (record { is_call = (a, call); hindrance = NoMemory; strikes = tt; shows = refl })
 
     -- no check runs a program
     pub agrees_ran : (s : Stop) (refusal : Option Refusal) → refusal ≡ refusal_of s → Agrees words (Some s) refusal
     agrees_ran s refusal e = (no_check words a call h.such.run, e)
+
+    -- what its end tells
+    pub told_ran : (s : Stop) (order : List Choice) (text : List ℕ) → TellsWhole p order s text → IsToldOf told words order (Some s) (refusal_of s) text
+    told_ran stop.Done order text t = (p, has_program, t)
+    told_ran stop.Uncaught order text t = (p, has_program, t)
+    told_ran (stop.StepLimit k) order text t = (p, has_program, t)
+    told_ran stop.Deadlock order text t = (p, has_program, t)
+    told_ran (stop.ThreadsFull k) order text t = (p, has_program, t)
+    told_ran stop.WriteFault order text t = tt
+    told_ran stop.NoMemory order text t = tt
+
+    -- which is nothing where all threads have ended without an exception
+    pub silent_ran : (s : Stop) (order : List Choice) (text : List ℕ) → RanTo p order before now s → TellsWhole p order s text → IsSilent (Some s) text
+    silent_ran stop.Done order text r t = done_silent p order before now text r t
+    silent_ran stop.Uncaught order text r t = tt
+    silent_ran (stop.StepLimit k) order text r t = tt
+    silent_ran stop.Deadlock order text r t = tt
+    silent_ran (stop.ThreadsFull k) order text r t = tt
+    silent_ran stop.WriteFault order text r t = tt
+    silent_ran stop.NoMemory order text r t = tt
 
   -- ---- files that are checked
 
@@ -125,30 +163,23 @@ module _ (words : List (List ℕ)) (told : Option Files) (a : Asked) (call : IsC
     unwritten_not s None says (none, inr p) = p.0 refl
     unwritten_not s (Some e) says (none, inr p) = p.1 (subst (λ (x : Refusal). Some x ≡ Some WriteFault) (sym says.0) refl)
 
--- nothing is told where standard output alone failed
-pub told_said : (told : Option Files) (words : List (List ℕ)) (line : List ℕ) (before now : Showing) (refusal : Option Refusal) (text : List ℕ) → Says line before now refusal → IsToldOf told words refusal text
-told_said told words line before now None text s = tt
-told_said told words line before now (Some e) text s = subst (λ (x : Refusal). IsToldOf told words (Some x) text) (sym s.0) tt
+-- nothing is told where standard output alone failed, or nothing did
+pub told_said : (told : Option Files) (words : List (List ℕ)) (order : List Choice) (line : List ℕ) (before now : Showing) (refusal : Option Refusal) (text : List ℕ) → text ≡ [] → Says line before now refusal → IsToldOf told words order None refusal text
+told_said told words order line before now None text none s = none
+told_said told words order line before now (Some e) text none s = subst (λ (x : Refusal). IsToldOf told words order None (Some x) text) (sym s.0) tt
 
--- nor by a run
-pub told_ran : (told : Option Files) (words : List (List ℕ)) (s : Stop) (text : List ℕ) → IsToldOf told words (refusal_of s) text
-told_ran told words stop.Done text = tt
-told_ran told words stop.WriteFault text = tt
-told_ran told words stop.NoMemory text = tt
-
--- what the report of a refusal speaks of
-pub subject : (told : Option Files) (words : List (List ℕ)) (v : Option Refusal) (text s : List ℕ) → IsToldOf told words v text → Speaks words v text s → IsSubject told words v s
-subject told words None text s t h = tt
-subject told words (Some (Link e)) text s t h = subst (λ (x : List ℕ). Names told words (IsToldText (Link e) x)) (sym h) t
-subject told words (Some (Flow e)) text s t h = subst (λ (x : List ℕ). Names told words (IsToldText (Flow e) x)) (sym h) t
-subject told words (Some (File k why)) text s t h = h
-subject told words (Some (NoFile k)) text s t h = h
-subject told words (Some (TooLong k)) text s t h = h
-subject told words (Some (ReadFault k)) text s t h = h
-subject told words (Some Usage) text s t h = h
-subject told words (Some WriteFault) text s t h = h
-subject told words (Some NotYet) text s t h = h
-subject told words (Some NoMemory) text s t h = h
+-- what a report speaks of
+pub subject : (told : Option Files) (words : List (List ℕ)) (order : List Choice) (stop : Option Stop) (v : Option Refusal) (text s : List ℕ) → IsToldOf told words order stop v text → Speaks words v text s → IsSubject told words order stop v s
+subject told words order stop None text s t h = subst (IsEndText told words order stop) (sym h) t
+subject told words order stop (Some (Link e)) text s t h = subst (λ (x : List ℕ). Names told words (IsToldText (Link e) x)) (sym h) t
+subject told words order stop (Some (Flow e)) text s t h = subst (λ (x : List ℕ). Names told words (IsToldText (Flow e) x)) (sym h) t
+subject told words order stop (Some (File k why)) text s t h = h
+subject told words order stop (Some (NoFile k)) text s t h = h
+subject told words order stop (Some (TooLong k)) text s t h = h
+subject told words order stop (Some (ReadFault k)) text s t h = h
+subject told words order stop (Some Usage) text s t h = h
+subject told words order stop (Some WriteFault) text s t h = h
+subject told words order stop (Some NoMemory) text s t h = h
 
 -- ---- a fault of standard error
 
@@ -164,12 +195,12 @@ wrote_answered words told before now None refusal silent (inr e) w = subst (Wrot
 wrote_answered words told before now (Some x) refusal silent (inr e) w = subst (Wrote words told before now) (sym e) (wrote_hidden words told before now x w)
 
 -- nor of the order
-pub ran_answered : (words : List (List ℕ)) (told : Option Files) (before now : Showing) (order : List Choice) (s : Option Stop) (plain refusal : Option Refusal) → (plain ≡ None → refusal ≡ None) → (refusal ≡ plain) ⊎ (refusal ≡ Some WriteFault) → Ran words told before now order s plain → Ran words told before now order s refusal
-ran_answered words told before now order None plain refusal silent h r = (r.0, wrote_answered words told before now plain refusal silent h r.1)
+pub ran_answered : (words : List (List ℕ)) (told : Option Files) (before now : Showing) (order : List Choice) (s : Option Stop) (plain refusal : Option Refusal) → (s ≡ None → plain ≡ None → refusal ≡ None) → (refusal ≡ plain) ⊎ (refusal ≡ Some WriteFault) → Ran words told before now order s plain → Ran words told before now order s refusal
+ran_answered words told before now order None plain refusal silent h r = (r.0, wrote_answered words told before now plain refusal (silent refl) h r.1)
 ran_answered words told before now order (Some s) plain refusal silent h r = r
 
 -- where nothing was written by the refusal as it is answered, so by the plain one
-pub unwritten_answered : (words : List (List ℕ)) (s : Option Stop) (plain refusal : Option Refusal) → (plain ≡ None → refusal ≡ None) → (refusal ≡ plain) ⊎ (refusal ≡ Some WriteFault) → IsUnwritten words s refusal → IsUnwritten words s plain
-unwritten_answered words s plain refusal silent (inl e) u = subst (IsUnwritten words s) e u
-unwritten_answered words s plain refusal silent (inr e) (none, inl n) = (none, inl n)
-unwritten_answered words s plain refusal silent (inr e) (none, inr p) = absurd (p.1 e)
+pub unwritten_answered : (words : List (List ℕ)) (s : Option Stop) (plain refusal : Option Refusal) → (refusal ≡ plain) ⊎ (refusal ≡ Some WriteFault) → IsUnwritten words s refusal → IsUnwritten words s plain
+unwritten_answered words s plain refusal (inl e) u = subst (IsUnwritten words s) e u
+unwritten_answered words s plain refusal (inr e) (none, inl n) = (none, inl n)
+unwritten_answered words s plain refusal (inr e) (none, inr p) = absurd (p.1 e)

@@ -1,6 +1,8 @@
+pub mod EndLaws
 pub mod Judged
 pub mod LoadLemmas
 pub mod OneVerdict
+pub mod RunLaws
 pub mod RunLoop
 pub mod Statuses
 pub mod WordLemmas

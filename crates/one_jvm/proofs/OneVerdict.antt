@@ -18,13 +18,10 @@ use Rattle.class_file.proofs.ClassLaws.{class_again}
 use Rattle.class_file.proofs.Refused.{refused_comes}
 use Rattle.link_rules.specs.declared.error.LinkErr.{LinkErr}
 use Rattle.class_link.specs.Refusals.{link_refusals}
-use Rattle.thin_file.specs.declared.thin.ThinCode.{ThinCode}
 use Rattle.one_jvm.specs.declared.outcome.Refusal.{Refusal}
-use Rattle.one_jvm.specs.declared.outcome.Refusal.TheVariants.{Usage, File, Link, Flow, NoFile, ReadFault, WriteFault, TooLong, NotYet, NoMemory}
-use Rattle.one_jvm.specs.declared.words.Command.{Command}
-use Rattle.one_jvm.specs.declared.words.Command.TheVariants.{Run, Check}
+use Rattle.one_jvm.specs.declared.outcome.Refusal.TheVariants.{Usage, File, Link, Flow, NoFile, ReadFault, WriteFault, TooLong, NoMemory}
 use Rattle.one_jvm.specs.Words.{Asked, IsCall, IsNoCall}
-use Rattle.one_jvm.specs.Verdicts.{limit, IsMissing, IsLong, IsRefusedFile, IsClassFile, AreClassFiles, StopsAt, main_of, AreAccepted, AreRefused, AreUntyped, IsThinFile, IsThinProgram, IsOtherProgram, IsChecked, Names, IsVerdict}
+use Rattle.one_jvm.specs.Verdicts.{limit, IsMissing, IsLong, IsRefusedFile, IsClassFile, AreClassFiles, StopsAt, main_of, AreAccepted, AreRefused, AreUntyped, IsProgram, IsChecked, Names, IsVerdict}
 use Rattle.one_jvm.specs.Outcomes.{status_of}
 use Rattle.one_jvm.proofs.LoadLemmas.{are_classes}
 use Rattle.one_jvm.proofs.WordLemmas.{one_call}
@@ -118,14 +115,9 @@ stop_read n (suc k) (x ∷ contents) content (c ∷ classes) e at a r =
 
 -- ---- the stages
 
--- accepted files that are to be run are one thin file or aren't; those that are to be checked are done
-abbrev AtTask : Command → List (Option (List ℕ)) → Option Refusal → Type 0
-AtTask Run contents = Tests (λ v. (v ≡ Some NotYet) × ((code : ThinCode) → ¬ IsThinFile code contents)) (λ (u : Unit {0}). (code : ThinCode) × IsThinFile code contents) (λ u v. v ≡ None)
-AtTask Check contents = λ v. v ≡ None
-
 -- linked class files are accepted or aren't
 abbrev AtVerify : Asked → List (Option (List ℕ)) → List ClassFile → Option Refusal → Type 0
-AtVerify a contents classes = Tests (λ v. (e : FlowErr) × (v ≡ Some (Flow e)) × accepting.AreUntyped e classes (main_of a.main classes)) (λ (u : Unit {0}). accepting.AreAccepted classes (main_of a.main classes)) (λ u. AtTask a.command contents)
+AtVerify a contents classes = Tests (λ v. (e : FlowErr) × (v ≡ Some (Flow e)) × accepting.AreUntyped e classes (main_of a.main classes)) (λ (u : Unit {0}). accepting.AreAccepted classes (main_of a.main classes)) (λ u v. v ≡ None)
 
 -- class files are linked or aren't
 abbrev AtLink : Asked → List (Option (List ℕ)) → List ClassFile → Option Refusal → Type 0
@@ -145,16 +137,12 @@ AtWords fs words = Tests (λ v. (v ≡ Some Usage) × IsNoCall words) (IsCall wo
 
 -- ---- each stage has one verdict at most
 
-one_at_task : (c : Command) (contents : List (Option (List ℕ))) (v w : Option Refusal) → AtTask c contents v → AtTask c contents w → v ≡ w
-one_at_task Run contents = one_stage _ _ _ (λ v w p q. p.0 ∙ sym q.0) (λ a b p q. refl) (λ v a p t. p.1 t.0 t.1) (λ a v w t p q. p ∙ sym q)
-one_at_task Check contents = λ v w p q. p ∙ sym q
-
 one_at_verify : (a : Asked) (contents : List (Option (List ℕ))) (classes : List ClassFile) → All IsClass classes → (v w : Option Refusal) → AtVerify a contents classes v → AtVerify a contents classes w → v ≡ w
 one_at_verify a contents classes formed = one_stage _ _ _
     (λ v w p q. p.1 ∙ ap (λ (e : FlowErr). Some (Flow e)) (one_rejection classes (main_of a.main classes) formed p.0 q.0 p.2 q.2) ∙ sym q.1)
     (λ x y p q. refl)
     (λ v x p h. not_accepted classes (main_of a.main classes) p.0 p.2 h)
-    (λ x v w h p q. one_at_task a.command contents v w p q)
+    (λ x v w h p q. p ∙ sym q)
 
 -- a list has one first item
 one_first : (xs : List LinkErr) (d e : LinkErr) → slice_get xs 0 ≡ Some d → slice_get xs 0 ≡ Some e → d ≡ e
@@ -215,32 +203,19 @@ module _ (fs : Files) (words : List (List ℕ)) where
   at_classes : (a : Asked) (contents : List (Option (List ℕ))) (classes : List ClassFile) (v : Option Refusal) → AreClassFiles contents classes → AtLink a contents classes v → AtFiles a contents v
   at_classes a contents classes v are rest = inr (classes, (classes_read 0 contents classes are, all_of IsClass classes (are_classes contents classes are)), rest)
 
-  -- those that are accepted go on further
-  at_accepted : (a : Asked) (contents : List (Option (List ℕ))) (v : Option Refusal) → AreAccepted a contents → AtTask a.command contents v → AtFiles a contents v
-  at_accepted a contents v l rest = at_classes a contents l.classes v l.are (inr (tt, l.accepted.links, inr (tt, l.accepted, rest)))
-
-  -- a thin file has its task
-  at_thin : (code : ThinCode) (a : Asked) (contents : List (Option (List ℕ))) → IsThinProgram code a contents → AtFiles a contents None
-  at_thin code a contents t = at_accepted a contents None t.accepted (subst (λ (c : Command). AtTask c contents None) (sym t.run) (inr (tt, (code, t.file), refl)))
-
-  -- other files have none
-  at_other : (a : Asked) (contents : List (Option (List ℕ))) → IsOtherProgram a contents → AtFiles a contents (Some NotYet)
-  at_other a contents o = at_accepted a contents (Some NotYet) o.accepted (subst (λ (c : Command). AtTask c contents (Some NotYet)) (sym o.run) (inl (refl, o.other)))
-
-  -- a check is done
-  at_checked : (a : Asked) (contents : List (Option (List ℕ))) → IsChecked a contents → AtFiles a contents None
-  at_checked a contents c = at_accepted a contents None c.accepted (subst (λ (x : Command). AtTask x contents None) (sym c.check) refl)
+  -- those that are accepted are done
+  at_accepted : (a : Asked) (contents : List (Option (List ℕ))) → AreAccepted a contents → AtFiles a contents None
+  at_accepted a contents l = at_classes a contents l.classes None l.are (inr (tt, l.accepted.links, inr (tt, l.accepted, refl)))
 
   at_words : (v : Option Refusal) → IsVerdict (Some fs) words v → AtWords fs words v
-  at_words None (inl h) = at_names (IsThinProgram h.0) None (at_thin h.0) h.1
-  at_words None (inr h) = at_names IsChecked None at_checked h
+  at_words None (inl h) = at_names (IsProgram h.0) None (λ a contents r. at_accepted a contents r.accepted) h.1
+  at_words None (inr h) = at_names IsChecked None (λ a contents c. at_accepted a contents c.accepted) h
   at_words (Some (Link e)) h = at_names (AreRefused e) (Some (Link e)) (λ a contents r. at_classes a contents r.classes (Some (Link e)) r.are (inl (e, refl, r.first))) h
   at_words (Some (Flow e)) h = at_names (AreUntyped e) (Some (Flow e)) (λ a contents r. at_classes a contents r.classes (Some (Flow e)) r.are (inr (tt, r.untyped.links, inl (e, refl, r.untyped)))) h
   at_words (Some Usage) h = inl (refl, h)
   at_words (Some (NoFile k)) h = at_stop IsMissing k (NoFile k) (missing_read k) h
   at_words (Some (TooLong k)) h = at_stop IsLong k (TooLong k) (long_read k) h
   at_words (Some (File k why)) h = at_stop (IsRefusedFile why) k (File k why) (λ content. refused_read k content why) h
-  at_words (Some NotYet) h = at_names IsOtherProgram (Some NotYet) at_other h
   at_words (Some (ReadFault k)) h = absurd h
   at_words (Some WriteFault) h = absurd h
   at_words (Some NoMemory) h = absurd h

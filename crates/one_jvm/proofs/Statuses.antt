@@ -5,15 +5,21 @@ use Rattle.std.proofs.lemmas.Bool.{eq-eqb, or_parts}
 use Rattle.cjvm_io.specs.Faults.{Rose}
 use Rattle.cjvm_io.specs.Shelves.{Files}
 use Rattle.cjvm_io.specs.Sinks.{Showing}
+use Rattle.machine_state.specs.declared.state.Choice.{Choice}
+use Rattle.machine_state.specs.State.{State}
+use Rattle.program_image.specs.Program.{Program}
+use Rattle.one_jvm.specs.Runs.{LeadsTo, IsEnd, RanTo}
+use Rattle.one_jvm.specs.Steps.Speaking.{IsSilent, Speaks}
+use Rattle.one_jvm.proofs.EndLaws.{is_done, is_uncaught, is_deadlock}
 use Rattle.one_jvm.specs.declared.outcome.Stop.{Stop}
 use Rattle.one_jvm.specs.declared.outcome.Stop.TheVariants as stop
 use Rattle.one_jvm.specs.declared.outcome.Refusal.{Refusal}
-use Rattle.one_jvm.specs.declared.outcome.Refusal.TheVariants.{Usage, File, Link, Flow, NoFile, ReadFault, WriteFault, TooLong, NotYet, NoMemory}
+use Rattle.one_jvm.specs.declared.outcome.Refusal.TheVariants.{Usage, File, Link, Flow, NoFile, ReadFault, WriteFault, TooLong, NoMemory}
 use Rattle.one_jvm.specs.Words.{IsNoCall, IsCheck}
-use Rattle.one_jvm.specs.Verdicts.{LacksFile, HasLongFile, HasOtherFiles, IsRefusedCall, IsDoneCall, IsVerdict}
-use Rattle.one_jvm.specs.Outcomes.{status_of}
-use Rattle.one_jvm.specs.Answers.{Faults, IsHindrance, IsHindered, Because, Agrees, OneOf, hindered, Exactly, Answers, IsClosed}
-use Rattle.one_jvm.proofs.OneVerdict.{one_status}
+use Rattle.one_jvm.specs.Verdicts.{LacksFile, HasLongFile, IsRefusedCall, IsDoneCall, IsVerdict}
+use Rattle.one_jvm.specs.Outcomes.{status_of, end_status, outcome_status}
+use Rattle.one_jvm.specs.Answers.{Faults, IsHindrance, IsHindered, Because, Ran, Agrees, OneOf, hindered, ends, broken, Exactly, Answers, AnswersOneOf, HasEndStatus, EndsRun, refusal_of, IsClosed}
+use Rattle.one_jvm.proofs.OneVerdict.{one_verdict}
 
 -- ---- the causes by their statuses
 
@@ -24,7 +30,6 @@ data Cause : Type 0 where
   Refused : Cause
   Missing : Cause
   Long : Cause
-  Other : Cause
   Never : Cause
 
 -- what each says
@@ -34,14 +39,13 @@ holds Misused told words = IsNoCall words
 holds Refused told words = IsRefusedCall told words
 holds Missing told words = LacksFile told words
 holds Long told words = HasLongFile told words
-holds Other told words = HasOtherFiles told words
 holds Never told words = ⊥
 
 -- the cause of a status
 abbrev cause_of : ℕ → Cause
 cause_of k =
-    if k == 0 then Accepted else if k == 2 then Misused else if k == 3 then Refused else
-    if k == 4 then Missing else if k == 11 then Long else if k == 14 then Other else Never
+    if k == 2 then Misused else if k == 3 then Refused else if k == 4 then Missing else
+    if k == 11 then Long else if k == 0 then Accepted else Never
 
 -- a verdict has the cause of its status
 caused : (told : Option Files) (words : List (List ℕ)) (v : Option Refusal) → IsVerdict told words v → holds (cause_of (status_of v)) told words
@@ -52,7 +56,6 @@ caused told words (Some (Link e)) h = inr (inl (e, h))
 caused told words (Some (Flow e)) h = inr (inr (e, h))
 caused told words (Some (NoFile k)) h = (k, h)
 caused told words (Some (TooLong k)) h = (k, h)
-caused told words (Some NotYet) h = h
 caused told words (Some (ReadFault k)) h = h
 caused told words (Some WriteFault) h = h
 caused told words (Some NoMemory) h = h
@@ -68,7 +71,6 @@ strikes told words faults (Link x) h = absurd h
 strikes told words faults (Flow x) h = absurd h
 strikes told words faults (NoFile k) h = absurd h
 strikes told words faults (TooLong k) h = absurd h
-strikes told words faults NotYet h = absurd h
 
 -- a read fault's count rose
 read_rose : (told : Option Files) (words : List (List ℕ)) (faults : Faults) (e : Refusal) → IsHindrance told words faults e → status_of (Some e) ≡ 5 → Rose faults.read_before faults.read_now
@@ -81,7 +83,6 @@ read_rose told words faults (Link x) h e = absurd h
 read_rose told words faults (Flow x) h e = absurd h
 read_rose told words faults (NoFile k) h e = absurd h
 read_rose told words faults (TooLong k) h e = absurd h
-read_rose told words faults NotYet h e = absurd h
 
 -- a write fault's count rose
 write_rose : (told : Option Files) (words : List (List ℕ)) (faults : Faults) (e : Refusal) → IsHindrance told words faults e → status_of (Some e) ≡ 6 → Rose faults.wrote_before faults.wrote_now
@@ -94,7 +95,6 @@ write_rose told words faults (Link x) h e = absurd h
 write_rose told words faults (Flow x) h e = absurd h
 write_rose told words faults (NoFile k) h e = absurd h
 write_rose told words faults (TooLong k) h e = absurd h
-write_rose told words faults NotYet h e = absurd h
 
 -- the number is one of these
 abbrev has : List ℕ → ℕ → Bool
@@ -109,10 +109,10 @@ apart (n ∷ ns) k e (inl p) =
 apart (n ∷ ns) k e (inr o) = apart ns k (or_parts (k == n) (has ns k) e).1 o
 
 -- what is refused has a verdict
-refused_verdict : (fs : Files) (words : List (List ℕ)) → IsRefusedCall (Some fs) words → (v : Option Refusal) × IsVerdict (Some fs) words v × (status_of v ≡ 3)
-refused_verdict fs words (inl r) = (Some (File r.0 r.1), r.2, refl)
-refused_verdict fs words (inr (inl r)) = (Some (Link r.0), r.1, refl)
-refused_verdict fs words (inr (inr r)) = (Some (Flow r.0), r.1, refl)
+refused_verdict : (fs : Files) (words : List (List ℕ)) → IsRefusedCall (Some fs) words → (e : Refusal) × IsVerdict (Some fs) words (Some e) × (status_of (Some e) ≡ 3)
+refused_verdict fs words (inl r) = (File r.0 r.1, r.2, refl)
+refused_verdict fs words (inr (inl r)) = (Link r.0, r.1, refl)
+refused_verdict fs words (inr (inr r)) = (Flow r.0, r.1, refl)
 
 -- words that are no command have their verdict
 no_run : (told : Option Files) (words : List (List ℕ)) (v : Option Refusal) → IsNoCall words → IsVerdict told words v → v ≡ Some Usage
@@ -124,7 +124,6 @@ no_run told words (Some (Link e)) n h = absurd (n h.asked h.is_call)
 no_run told words (Some (Flow e)) n h = absurd (n h.asked h.is_call)
 no_run told words (Some (NoFile k)) n h = absurd (n h.asked h.is_call)
 no_run told words (Some (TooLong k)) n h = absurd (n h.asked h.is_call)
-no_run told words (Some NotYet) n h = absurd (n h.asked h.is_call)
 no_run told words (Some (ReadFault k)) n h = absurd h
 no_run told words (Some WriteFault) n h = absurd h
 no_run told words (Some NoMemory) n h = absurd h
@@ -139,26 +138,76 @@ IsOrHides plain refusal = (refusal ≡ plain) ⊎ (refusal ≡ Some WriteFault)
 pub hides : (name : List ℕ) (plain : Option Refusal) (before now : Showing) (refusal : Option Refusal) → IsClosed name plain before now refusal → IsOrHides plain refusal
 hides name plain before now refusal h = ⊎_elim (λ a. inl a.0) (λ b. inr b.0) h
 
-module _ (words : List (List ℕ)) (told : Option Files) (faults : Faults) (plain refusal : Option Refusal) (status : ℕ)
-    (s : status ≡ status_of refusal) (b : Because words told faults plain) (h : IsOrHides plain refusal) where
+-- a fault of standard error hides a refusal, and what an end tells
+pub plain_none : (plain refusal : Option Refusal) → IsOrHides plain refusal → refusal ≡ None → plain ≡ None
+plain_none plain refusal h e = ⊎_elim (λ p. sym p ∙ e) (λ p. let q : None ≡ Some WriteFault = sym e ∙ p in absurd cc) h
+
+-- ---- ends of runs that aren't refused
+
+-- an end's status is one of five, where the run isn't refused
+end_is : (words : List (List ℕ)) (s : Option Stop) → Agrees words s None → OneOf ends (end_status s)
+end_is words None a = inl refl
+end_is words (Some stop.Done) a = inl refl
+end_is words (Some stop.Uncaught) a = inr (inl refl)
+end_is words (Some (stop.StepLimit t)) a = inr (inr (inl refl))
+end_is words (Some stop.Deadlock) a = inr (inr (inr (inl refl)))
+end_is words (Some (stop.ThreadsFull t)) a = inr (inr (inr (inr (inl refl))))
+end_is words (Some stop.WriteFault) a = absurd (let e = a.1 in cc)
+end_is words (Some stop.NoMemory) a = absurd (let e = a.1 in cc)
+
+-- no refusal has one of these
+refusal_is : (e : Refusal) → has ends (status_of (Some e)) ≡ false
+refusal_is Usage = refl
+refusal_is (File k why) = refl
+refusal_is (Link x) = refl
+refusal_is (Flow x) = refl
+refusal_is (NoFile k) = refl
+refusal_is (ReadFault k) = refl
+refusal_is WriteFault = refl
+refusal_is (TooLong k) = refl
+refusal_is NoMemory = refl
+
+-- so what has one isn't refused
+none_at : (s : Option Stop) (refusal : Option Refusal) → OneOf ends (outcome_status s refusal) → refusal ≡ None
+none_at s None o = refl
+none_at s (Some e) o = absurd (apart ends (status_of (Some e)) (refusal_is e) o)
+
+-- a number that is none of an end's is that of no end
+not_an_end : (k j : ℕ) → has ends k ≡ false → j ≡ k → OneOf ends j → ⊥
+not_an_end k j n e o = apart ends k n (subst (OneOf ends) e o)
+
+module _ (words : List (List ℕ)) (told : Option Files) (faults : Faults) (s : Option Stop) (plain refusal : Option Refusal) (status : ℕ)
+    (is : status ≡ outcome_status s refusal) (agrees : Agrees words s plain) (b : Because words told faults plain) (h : IsOrHides plain refusal) where
   -- the status is that of the plain refusal, or of a write fault
-  shows : (status ≡ status_of plain) ⊎ (status ≡ 6)
-  shows = ⊎_elim (λ e. inl (s ∙ ap status_of e)) (λ e. inr (s ∙ ap status_of e)) h
+  shows : (status ≡ outcome_status s plain) ⊎ (status ≡ 6)
+  shows = ⊎_elim (λ e. inl (is ∙ ap (outcome_status s) e)) (λ e. inr (is ∙ ap (outcome_status s) e)) h
+
+  -- where nothing is refused the status is an end's
+  plain_end : plain ≡ None → OneOf ends (outcome_status s plain)
+  plain_end e = subst (λ (r : Option Refusal). OneOf ends (outcome_status s r)) (sym e) (end_is words s (subst (Agrees words s) e agrees))
 
   -- the status of a hindered call is one of three
-  when_hindered : IsHindered told words faults plain → OneOf hindered (status_of plain)
-  when_hindered x = subst (λ (r : Option Refusal). OneOf hindered (status_of r)) (sym x.shows) (strikes told words faults x.hindrance x.strikes)
+  when_hindered : IsHindered told words faults plain → OneOf hindered (outcome_status s plain)
+  when_hindered x = subst (λ (r : Option Refusal). OneOf hindered (outcome_status s r)) (sym x.shows) (strikes told words faults x.hindrance x.strikes)
+
+  -- a refused call has its status
+  plain_status : (k : ℕ) → has ends k ≡ false → outcome_status s plain ≡ k → status_of plain ≡ k
+  plain_status k n e = by_plain plain plain_end e
+    where
+      by_plain : (v : Option Refusal) → (v ≡ None → OneOf ends (outcome_status s v)) → outcome_status s v ≡ k → status_of v ≡ k
+      by_plain None o f = absurd (not_an_end k (outcome_status s None) n f (o refl))
+      by_plain (Some x) o f = f
 
   -- a verdict's cause, where the status is the plain refusal's
-  of_verdict : (k : ℕ) → IsVerdict told words plain → status_of plain ≡ k → holds (cause_of k) told words
-  of_verdict k v e = subst (λ (n : ℕ). holds (cause_of n) told words) e (caused told words plain v)
+  of_verdict : (k : ℕ) → has ends k ≡ false → IsVerdict told words plain → outcome_status s plain ≡ k → holds (cause_of k) told words
+  of_verdict k n v e = subst (λ (n : ℕ). holds (cause_of n) told words) (plain_status k n e) (caused told words plain v)
 
-  -- a status that no hindrance has comes exactly with its cause
-  answers : (k : ℕ) → (OneOf hindered k → ⊥) → ((fs : Files) → holds (cause_of k) (Some fs) words → (v : Option Refusal) × IsVerdict (Some fs) words v × (status_of v ≡ k)) → Answers told words status k (holds (cause_of k))
-  answers k apart back fs t = record {
+  -- a status that no end and no hindrance has comes exactly with its cause
+  answers : (k : ℕ) → has ends k ≡ false → (OneOf hindered k → ⊥) → ((fs : Files) → holds (cause_of k) (Some fs) words → (e : Refusal) × IsVerdict (Some fs) words (Some e) × (status_of (Some e) ≡ k)) → Answers told words status k (holds (cause_of k))
+  answers k n apart back fs t = record {
     only = λ e. ⊎_elim
         (λ p. ⊎_elim
-        (λ v. subst (λ (x : Option Files). holds (cause_of k) x words) t (of_verdict k v (sym p ∙ e)))
+        (λ v. subst (λ (x : Option Files). holds (cause_of k) x words) t (of_verdict k n v (sym p ∙ e)))
         (λ x. absurd (apart (subst (OneOf hindered) (sym p ∙ e) (when_hindered x)))) b)
         (λ p. absurd (apart (inr (inl (sym e ∙ p))))) shows;
     always = λ c. ⊎_elim
@@ -166,37 +215,51 @@ module _ (words : List (List ℕ)) (told : Option Files) (faults : Faults) (plai
         (λ o.
         let v = subst (λ (x : Option Files). IsVerdict x words plain) t o in
         let r = back fs c in
-        inl (p ∙ one_status fs words plain r.0 v r.1 ∙ r.2))
+        inl (p ∙ ap (outcome_status s) (one_verdict fs words plain (Some r.0) v r.1) ∙ r.2))
         (λ x. inr (subst (OneOf hindered) (sym p) (when_hindered x))) b)
         (λ p. inr (inr (inl p))) shows;
   }
 
   pub refused : Answers told words status 3 IsRefusedCall
-  refused = answers 3 (apart hindered 3 refl) (λ fs r. refused_verdict fs words r)
+  refused = answers 3 refl (apart hindered 3 refl) (λ fs r. refused_verdict fs words r)
 
   pub no_file : Answers told words status 4 LacksFile
-  no_file = answers 4 (apart hindered 4 refl) (λ fs l. (Some (NoFile l.0), l.1, refl))
+  no_file = answers 4 refl (apart hindered 4 refl) (λ fs l. (NoFile l.0, l.1, refl))
 
   pub too_long : Answers told words status 11 HasLongFile
-  too_long = answers 11 (apart hindered 11 refl) (λ fs l. (Some (TooLong l.0), l.1, refl))
+  too_long = answers 11 refl (apart hindered 11 refl) (λ fs l. (TooLong l.0, l.1, refl))
 
-  pub not_yet : Answers told words status 14 HasOtherFiles
-  not_yet = answers 14 (apart hindered 14 refl) (λ fs o. (Some NotYet, o, refl))
+  -- an end's status is that of no refusal
+  plain_at : OneOf ends status → plain ≡ None
+  plain_at o = plain_none plain refusal h (none_at s refusal (subst (OneOf ends) is o))
 
-  pub ended : Answers told words status 0 IsDoneCall
-  ended = answers 0 (apart hindered 0 refl) (λ fs t. (None, t, refl))
+  pub ended : AnswersOneOf told words status ends IsDoneCall
+  ended fs t = record {
+    only = λ o.
+        let none : plain ≡ None = plain_at o in
+        ⊎_elim
+        (λ v. subst (λ (x : Option Files). IsDoneCall x words) t (subst (λ (r : Option Refusal). IsVerdict told words r) none v))
+        (λ x. absurd (let e : None ≡ Some x.hindrance = sym none ∙ x.shows in cc)) b;
+    always = λ c. ⊎_elim
+        (λ p. ⊎_elim
+        (λ o.
+        let v = subst (λ (x : Option Files). IsVerdict x words plain) t o in
+        inl (subst (OneOf ends) (sym p) (plain_end (one_verdict fs words plain None v c))))
+        (λ x. inr (subst (OneOf hindered) (sym p) (when_hindered x))) b)
+        (λ p. inr (inr (inl p))) shows;
+  }
 
   -- words that are no command have their status, whatever the files
   pub usage : Exactly status 2 (6 ∷ []) (IsNoCall words)
   usage = record {
     only = λ e. ⊎_elim
         (λ p. ⊎_elim
-        (λ o. of_verdict 2 o (sym p ∙ e))
+        (λ o. of_verdict 2 refl o (sym p ∙ e))
         (λ x. absurd (apart hindered 2 refl (subst (OneOf hindered) (sym p ∙ e) (when_hindered x)))) b)
         (λ p. absurd (apart hindered 2 refl (inr (inl (sym e ∙ p))))) shows;
     always = λ n. ⊎_elim
         (λ p. ⊎_elim
-        (λ o. inl (p ∙ ap status_of (no_run told words plain n o)))
+        (λ o. inl (p ∙ ap (outcome_status s) (no_run told words plain n o)))
         (λ x. absurd (n x.is_call.0 x.is_call.1)) b)
         (λ p. inr (inl p)) shows;
   }
@@ -205,64 +268,208 @@ module _ (words : List (List ℕ)) (told : Option Files) (faults : Faults) (plai
   pub read_fault : status ≡ 5 → Rose faults.read_before faults.read_now
   read_fault e = ⊎_elim
       (λ p. ⊎_elim
-      (λ o. absurd (of_verdict 5 o (sym p ∙ e)))
-      (λ x. read_rose told words faults x.hindrance x.strikes (ap status_of (sym x.shows) ∙ sym p ∙ e)) b)
+      (λ o. absurd (of_verdict 5 refl o (sym p ∙ e)))
+      (λ x. read_rose told words faults x.hindrance x.strikes (ap (outcome_status s) (sym x.shows) ∙ sym p ∙ e)) b)
       (λ p. absurd (let q : 5 ≡ 6 = sym e ∙ p in omega (arith, q))) shows
 
   -- a write fault of the plain refusal has its cause
-  pub write_fault : status_of plain ≡ 6 → Rose faults.wrote_before faults.wrote_now
+  pub write_fault : outcome_status s plain ≡ 6 → Rose faults.wrote_before faults.wrote_now
   write_fault e = ⊎_elim
-      (λ o. absurd (of_verdict 6 o e))
-      (λ x. write_rose told words faults x.hindrance x.strikes (ap status_of (sym x.shows) ∙ e)) b
+      (λ o. absurd (of_verdict 6 refl o e))
+      (λ x. write_rose told words faults x.hindrance x.strikes (ap (outcome_status s) (sym x.shows) ∙ e)) b
+
+  -- nothing is refused exactly where the status is an end's
+  pub unrefused : (refusal ≡ None) ↔ OneOf ends status
+  unrefused = (
+    λ e.
+        let none = plain_none plain refusal h e in
+        subst (OneOf ends) (sym (is ∙ ap (outcome_status s) (e ∙ sym none))) (plain_end none),
+    λ o. none_at s refusal (subst (OneOf ends) is o),
+  )
 
 -- a write fault has its cause, at standard output or at standard error
-pub any_write_fault : (words : List (List ℕ)) (told : Option Files) (faults : Faults) (name : List ℕ) (plain refusal : Option Refusal) (before now : Showing) (status : ℕ)
-    → status ≡ status_of refusal → Because words told faults plain → IsClosed name plain before now refusal
+pub any_write_fault : (words : List (List ℕ)) (told : Option Files) (faults : Faults) (name : List ℕ) (s : Option Stop) (plain refusal : Option Refusal) (before now : Showing) (status : ℕ)
+    → status ≡ outcome_status s refusal → Agrees words s plain → Because words told faults plain → IsClosed name plain before now refusal
     → status ≡ 6 → Rose faults.wrote_before faults.wrote_now ⊎ Rose before.faults now.faults
-any_write_fault words told faults name plain refusal before now status s b closed e = ⊎_elim
-    (λ a. inl (write_fault words told faults plain refusal status s b (inl a.0) (ap status_of (sym a.0) ∙ sym s ∙ e)))
+any_write_fault words told faults name s plain refusal before now status is agrees b closed e = ⊎_elim
+    (λ a. inl (write_fault words told faults s plain refusal status is agrees b (inl a.0) (ap (outcome_status s) (sym a.0) ∙ sym is ∙ e)))
     (λ c. inr c.1) closed
 
 -- ---- the end of the run
 
--- status 0 is that of no refusal
-none_is : (refusal : Option Refusal) → status_of refusal ≡ 0 → refusal ≡ None
-none_is None e = refl
-none_is (Some Usage) e = absurd (omega arith)
-none_is (Some (File k why)) e = absurd (omega arith)
-none_is (Some (Link x)) e = absurd (omega arith)
-none_is (Some (Flow x)) e = absurd (omega arith)
-none_is (Some (NoFile k)) e = absurd (omega arith)
-none_is (Some (ReadFault k)) e = absurd (omega arith)
-none_is (Some WriteFault) e = absurd (omega arith)
-none_is (Some (TooLong k)) e = absurd (omega arith)
-none_is (Some NotYet) e = absurd (omega arith)
-none_is (Some NoMemory) e = absurd (omega arith)
+-- status 0 is that of a call that is done: a check, or a run all of whose threads have ended
+zero_is : (s : Option Stop) → end_status s ≡ 0 → (s ≡ None) ⊎ (s ≡ Some stop.Done)
+zero_is None e = inl refl
+zero_is (Some stop.Done) e = inr refl
+zero_is (Some stop.Uncaught) e = absurd (omega arith)
+zero_is (Some (stop.StepLimit t)) e = absurd (omega arith)
+zero_is (Some stop.Deadlock) e = absurd (omega arith)
+zero_is (Some (stop.ThreadsFull t)) e = absurd (omega arith)
+zero_is (Some stop.WriteFault) e = absurd (omega arith)
+zero_is (Some stop.NoMemory) e = absurd (omega arith)
 
--- a call that isn't refused and asks for no check ran its program to the end
-done_of : (words : List (List ℕ)) (s : Option Stop) → ¬ IsCheck words → Agrees words s None → s ≡ Some stop.Done
-done_of words None n (inl c) = absurd (n c)
-done_of words None n (inr a) = absurd (a.0 refl)
-done_of words (Some stop.Done) n a = refl
-done_of words (Some stop.WriteFault) n a = absurd (let e = a.1 in cc)
-done_of words (Some stop.NoMemory) n a = absurd (let e = a.1 in cc)
+-- a call that isn't refused and asks for no check ran its program
+none_checked : (words : List (List ℕ)) (s : Option Stop) → ¬ IsCheck words → Agrees words s None → s ≡ None → ⊥
+none_checked words None n (inl c) e = n c
+none_checked words None n (inr a) e = a.0 refl
+none_checked words (Some x) n a e = absurd cc
 
 -- a check runs no program
 pub unrun : (words : List (List ℕ)) (s : Option Stop) (refusal : Option Refusal) → Agrees words s refusal → IsCheck words → s ≡ None
 unrun words None refusal a c = refl
 unrun words (Some s) refusal a c = absurd (a.0 c)
 
--- a fault of standard error hides a refusal, never that there is none
-pub plain_none : (plain refusal : Option Refusal) → IsOrHides plain refusal → refusal ≡ None → plain ≡ None
-plain_none plain refusal h e = ⊎_elim (λ p. sym p ∙ e) (λ p. let q : None ≡ Some WriteFault = sym e ∙ p in absurd cc) h
+-- what was reported of a call that tells nothing is what is so
+pub silent_none : (s : Option Stop) (text subject : List ℕ) (plain refusal : Option Refusal) → (plain ≡ None → IsSilent s text) → (plain ≡ None → subject ≡ text) → (plain ≡ None → subject ≡ [] → refusal ≡ None) → s ≡ None → plain ≡ None → refusal ≡ None
+silent_none s text subject plain refusal silent speaks closed e n =
+    closed n (speaks n ∙ subst (λ (x : Option Stop). IsSilent x text) e (silent n))
 
--- at status 0 nothing is refused
-pub silent_at_zero : (plain refusal : Option Refusal) (status : ℕ) → status ≡ status_of refusal → IsOrHides plain refusal → status ≡ 0 → plain ≡ None
-silent_at_zero plain refusal status s h e = plain_none plain refusal h (none_is refusal (sym s ∙ e))
+-- at the end of all threads too
+pub silent_done : (s : Option Stop) (text subject : List ℕ) (plain refusal : Option Refusal) → (plain ≡ None → IsSilent s text) → (plain ≡ None → subject ≡ text) → (plain ≡ None → subject ≡ [] → refusal ≡ None) → s ≡ Some stop.Done → plain ≡ None → refusal ≡ None
+silent_done s text subject plain refusal silent speaks closed e n =
+    closed n (speaks n ∙ subst (λ (x : Option Stop). IsSilent x text) e (silent n))
 
--- status 0 comes exactly where the run came to its end
-pub done : (words : List (List ℕ)) (s : Option Stop) (plain refusal : Option Refusal) (status : ℕ) → status ≡ status_of refusal → IsOrHides plain refusal → Agrees words s plain → (plain ≡ None → refusal ≡ None) → ¬ IsCheck words → (status ≡ 0) ↔ (s ≡ Some stop.Done)
-done words s plain refusal status e h a silent n = (
-  λ z. done_of words s n (subst (Agrees words s) (silent_at_zero plain refusal status e h z) a),
-  λ d. let p : Agrees words (Some stop.Done) plain = subst (λ (x : Option Stop). Agrees words x plain) d a in e ∙ ap status_of (silent p.1),
+-- what a subject of no refusal is
+pub speaks_none : (words : List (List ℕ)) (plain : Option Refusal) (text subject : List ℕ) → Speaks words plain text subject → plain ≡ None → subject ≡ text
+speaks_none words None text subject h e = h
+speaks_none words (Some x) text subject h e = absurd cc
+
+-- status 0 is that of no refusal, and nothing was told
+pub silent_at_zero : (s : Option Stop) (text subject : List ℕ) (plain refusal : Option Refusal) (status : ℕ) → status ≡ outcome_status s refusal → IsOrHides plain refusal → (plain ≡ None → IsSilent s text) → (plain ≡ None → subject ≡ text) → status ≡ 0 → (plain ≡ None) × (subject ≡ [])
+silent_at_zero s text subject plain refusal status is h silent speaks z =
+    let none : refusal ≡ None = none_at s refusal (inl (sym is ∙ z)) in
+    let n : plain ≡ None = plain_none plain refusal h none in
+    let zero : end_status s ≡ 0 = ap (outcome_status s) (sym none) ∙ sym is ∙ z in
+    (n, speaks n ∙ by_end s (zero_is s zero) (silent n))
+  where
+    by_end : (x : Option Stop) → (x ≡ None) ⊎ (x ≡ Some stop.Done) → IsSilent x text → text ≡ []
+    by_end x (inl e) i = subst (λ (y : Option Stop). IsSilent y text) e i
+    by_end x (inr e) i = subst (λ (y : Option Stop). IsSilent y text) e i
+
+-- status 0 comes exactly where the run came to its end and nothing is uncaught
+pub done : (words : List (List ℕ)) (s : Option Stop) (plain refusal : Option Refusal) (status : ℕ) → status ≡ outcome_status s refusal → IsOrHides plain refusal → Agrees words s plain → (s ≡ Some stop.Done → plain ≡ None → refusal ≡ None) → ¬ IsCheck words → (status ≡ 0) ↔ (s ≡ Some stop.Done)
+done words s plain refusal status is h a silent n = (
+  λ z.
+      let none : refusal ≡ None = none_at s refusal (inl (sym is ∙ z)) in
+      let p : plain ≡ None = plain_none plain refusal h none in
+      let zero : end_status s ≡ 0 = ap (outcome_status s) (sym none) ∙ sym is ∙ z in
+      ⊎_elim (λ e. absurd (none_checked words s n (subst (Agrees words s) p a) e)) (λ e. e) (zero_is s zero),
+  λ d.
+      let p : Agrees words (Some stop.Done) plain = subst (λ (x : Option Stop). Agrees words x plain) d a in
+      is ∙ ap (outcome_status s) (silent d p.1) ∙ ap end_status d,
 )
+
+-- ---- the status of a run
+
+done_by : (s : Stop) → end_status (Some s) ≡ 0 → s ≡ stop.Done
+done_by stop.Done e = refl
+done_by stop.Uncaught e = absurd (omega arith)
+done_by (stop.StepLimit t) e = absurd (omega arith)
+done_by stop.Deadlock e = absurd (omega arith)
+done_by (stop.ThreadsFull t) e = absurd (omega arith)
+done_by stop.WriteFault e = absurd (omega arith)
+done_by stop.NoMemory e = absurd (omega arith)
+
+uncaught_by : (s : Stop) → end_status (Some s) ≡ 1 → s ≡ stop.Uncaught
+uncaught_by stop.Uncaught e = refl
+uncaught_by stop.Done e = absurd (omega arith)
+uncaught_by (stop.StepLimit t) e = absurd (omega arith)
+uncaught_by stop.Deadlock e = absurd (omega arith)
+uncaught_by (stop.ThreadsFull t) e = absurd (omega arith)
+uncaught_by stop.WriteFault e = absurd (omega arith)
+uncaught_by stop.NoMemory e = absurd (omega arith)
+
+deadlock_by : (s : Stop) → end_status (Some s) ≡ 9 → s ≡ stop.Deadlock
+deadlock_by stop.Deadlock e = refl
+deadlock_by stop.Done e = absurd (omega arith)
+deadlock_by stop.Uncaught e = absurd (omega arith)
+deadlock_by (stop.StepLimit t) e = absurd (omega arith)
+deadlock_by (stop.ThreadsFull t) e = absurd (omega arith)
+deadlock_by stop.WriteFault e = absurd (omega arith)
+deadlock_by stop.NoMemory e = absurd (omega arith)
+
+limit_by : (s : Stop) → end_status (Some s) ≡ 8 → (t : ℕ) × (s ≡ stop.StepLimit t)
+limit_by (stop.StepLimit t) e = (t, refl)
+limit_by stop.Done e = absurd (omega arith)
+limit_by stop.Uncaught e = absurd (omega arith)
+limit_by stop.Deadlock e = absurd (omega arith)
+limit_by (stop.ThreadsFull t) e = absurd (omega arith)
+limit_by stop.WriteFault e = absurd (omega arith)
+limit_by stop.NoMemory e = absurd (omega arith)
+
+full_by : (s : Stop) → end_status (Some s) ≡ 10 → (t : ℕ) × (s ≡ stop.ThreadsFull t)
+full_by (stop.ThreadsFull t) e = (t, refl)
+full_by stop.Done e = absurd (omega arith)
+full_by stop.Uncaught e = absurd (omega arith)
+full_by (stop.StepLimit t) e = absurd (omega arith)
+full_by stop.Deadlock e = absurd (omega arith)
+full_by stop.WriteFault e = absurd (omega arith)
+full_by stop.NoMemory e = absurd (omega arith)
+
+-- how a run ended, as far as its status tells
+module _ (p : Program) (last : State) (s : Stop) (e : IsEnd p last s) (refusal : Option Refusal) (status : ℕ) (is : status ≡ outcome_status (Some s) refusal) (h : IsOrHides None refusal) where
+  -- it is that of the end, or of a write fault
+  run_shows : (status ≡ end_status (Some s)) ⊎ (status ≡ 6)
+  run_shows = ⊎_elim (λ q. inl (is ∙ ap (outcome_status (Some s)) q)) (λ q. inr (is ∙ ap (outcome_status (Some s)) q)) h
+
+  -- a status that isn't a write fault's is that of the end
+  of_end : (k : ℕ) → (k ≡ 6 → ⊥) → status ≡ k → end_status (Some s) ≡ k
+  of_end k n q = ⊎_elim (λ r. sym r ∙ q) (λ r. absurd (n (sym q ∙ r))) run_shows
+
+  -- a status comes with its end
+  comes : (x : Stop) → s ≡ x → OneOf (end_status (Some x) ∷ broken) status
+  comes x q = ⊎_elim (λ r. inl (r ∙ ap (λ (y : Stop). end_status (Some y)) q)) (λ r. inr (inl r)) run_shows
+
+  ends_as : (x : Stop) → s ≡ x → IsEnd p last x
+  ends_as x q = subst (IsEnd p last) q e
+
+  run_done : Exactly status 0 broken (IsEnd p last stop.Done)
+  run_done = record { only = λ q. ends_as stop.Done (done_by s (of_end 0 (λ r. absurd (omega arith)) q)); always = λ d. comes stop.Done (is_done p last s d e) }
+
+  run_uncaught : Exactly status 1 broken (IsEnd p last stop.Uncaught)
+  run_uncaught = record { only = λ q. ends_as stop.Uncaught (uncaught_by s (of_end 1 (λ r. absurd (omega arith)) q)); always = λ d. comes stop.Uncaught (is_uncaught p last s d e) }
+
+  run_deadlock : Exactly status 9 broken (IsEnd p last stop.Deadlock)
+  run_deadlock = record { only = λ q. ends_as stop.Deadlock (deadlock_by s (of_end 9 (λ r. absurd (omega arith)) q)); always = λ d. comes stop.Deadlock (is_deadlock p last s d e) }
+
+  run_limit : status ≡ 8 → (t : ℕ) × IsEnd p last (stop.StepLimit t)
+  run_limit q = let l = limit_by s (of_end 8 (λ r. absurd (omega arith)) q) in (l.0, ends_as (stop.StepLimit l.0) l.1)
+
+  run_full : status ≡ 10 → (t : ℕ) × IsEnd p last (stop.ThreadsFull t)
+  run_full q = let l = full_by s (of_end 10 (λ r. absurd (omega arith)) q) in (l.0, ends_as (stop.ThreadsFull l.0) l.1)
+
+  end_status_of : (order : List Choice) → LeadsTo p order last → HasEndStatus p order status
+  end_status_of order leads = record { last = last; leads = leads; done = run_done; uncaught = run_uncaught; deadlock = run_deadlock; step_limit = run_limit; threads_full = run_full }
+
+-- a run that was cut off has the status of that
+cut_status : (p : Program) (order : List Choice) (last : State) (status : ℕ) → LeadsTo p order last → OneOf broken status → HasEndStatus p order status
+cut_status p order last status leads o = record {
+  last = last;
+  leads = leads;
+  done = record { only = λ q. absurd (apart broken 0 refl (subst (OneOf broken) q o)); always = λ d. inr o };
+  uncaught = record { only = λ q. absurd (apart broken 1 refl (subst (OneOf broken) q o)); always = λ d. inr o };
+  deadlock = record { only = λ q. absurd (apart broken 9 refl (subst (OneOf broken) q o)); always = λ d. inr o };
+  step_limit = λ q. absurd (apart broken 8 refl (subst (OneOf broken) q o));
+  threads_full = λ q. absurd (apart broken 10 refl (subst (OneOf broken) q o));
+}
+
+-- where one was refused, or its refusal is hidden
+cut_is : (s : Stop) (e : Refusal) (refusal : Option Refusal) (status : ℕ) → OneOf broken (status_of (Some e)) → status ≡ outcome_status (Some s) refusal → IsOrHides (Some e) refusal → OneOf broken status
+cut_is s e refusal status o is (inl q) = subst (OneOf broken) (sym (is ∙ ap (outcome_status (Some s)) q)) o
+cut_is s e refusal status o is (inr q) = inl (is ∙ ap (outcome_status (Some s)) q)
+
+-- by how it ended
+run_status_by : (p : Program) (order : List Choice) (before now : Showing) (s : Stop) (refusal : Option Refusal) (status : ℕ) → RanTo p order before now s → status ≡ outcome_status (Some s) refusal → IsOrHides (refusal_of s) refusal → HasEndStatus p order status
+run_status_by p order before now stop.Done refusal status r is h = end_status_of p r.last stop.Done r.ended refusal status is h order r.leads
+run_status_by p order before now stop.Uncaught refusal status r is h = end_status_of p r.last stop.Uncaught r.ended refusal status is h order r.leads
+run_status_by p order before now (stop.StepLimit t) refusal status r is h = end_status_of p r.last (stop.StepLimit t) r.ended refusal status is h order r.leads
+run_status_by p order before now stop.Deadlock refusal status r is h = end_status_of p r.last stop.Deadlock r.ended refusal status is h order r.leads
+run_status_by p order before now (stop.ThreadsFull t) refusal status r is h = end_status_of p r.last (stop.ThreadsFull t) r.ended refusal status is h order r.leads
+run_status_by p order before now stop.WriteFault refusal status r is h = cut_status p order r.0.last status r.0.leads (cut_is stop.WriteFault WriteFault refusal status (inl refl) is h)
+run_status_by p order before now stop.NoMemory refusal status r is h = cut_status p order r.last status r.leads (cut_is stop.NoMemory NoMemory refusal status (inr (inl refl)) is h)
+
+-- the status of a call is that of the end of its order
+pub run_status : (words : List (List ℕ)) (told : Option Files) (before now : Showing) (order : List Choice) (s : Option Stop) (plain refusal : Option Refusal) (status : ℕ) → Ran words told before now order s plain → Agrees words s plain → status ≡ outcome_status s refusal → IsOrHides plain refusal → EndsRun words told order s status
+run_status words told before now order None plain refusal status r a is h = tt
+run_status words told before now order (Some s) plain refusal status r a is h =
+    (r.0, r.1, run_status_by r.0 order before now s refusal status r.2 is (subst (λ (x : Option Refusal). IsOrHides x refusal) a.1 h))

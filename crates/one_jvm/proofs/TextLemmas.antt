@@ -1,12 +1,12 @@
 -- Methods counted through classes.
-use Rattle.std.proofs.Common.{◌≡◌, ℕ, zero, suc, ◌+◌, ◌≤◌, List, [], ◌∷◌, ◌++◌, length, take, get_or, Some, None, Result, Ok, Err, refl, ap, subst, ◌∙◌, arith}
+use Rattle.std.proofs.Common.{◌≡◌, ℕ, zero, suc, ◌+◌, ◌≤◌, ◌<◌, List, [], ◌∷◌, ◌++◌, length, take, get_or, Some, None, Result, Ok, Err, refl, ap, subst, ◌∙◌, append-nil, arith}
 use Rattle.std.specs.Prelude.{slice_get, option_map, not, MatchResult}
 use Rattle.std.specs.List.{flat_map, sum_by, All}
 use Rattle.std.proofs.lemmas.List.{length-append, length-map, take_more}
 use Rattle.std.proofs.lemmas.Grind.{flat_map-append}
 use Rattle.std.proofs.lemmas.List.Filters.{length-filter_both}
 use Rattle.std.proofs.lemmas.List.Sums.{sum_by-append}
-use Rattle.std.proofs.lemmas.Option.{slice_get-map, slice_get_within, get_or_from_slice_get}
+use Rattle.std.proofs.lemmas.Option.{slice_get-map, slice_get_within, slice_get-get_or, get_or_from_slice_get}
 use Rattle.acceptance.proofs.TreeLaws.{front_at, back_at}
 use Rattle.class_format.specs.declared.class.ClassFile.{ClassFile}
 use Rattle.class_format.specs.declared.class.MethodItem.{MethodItem}
@@ -24,6 +24,15 @@ pub past_of : {A : Type 0} (xs : List A) (k : ℕ) → slice_get xs k ≡ None �
 past_of [] k e = omega arith
 past_of (x ∷ xs) zero e = absurd cc
 past_of (x ∷ xs) (suc k) e = let l = past_of xs k e in omega arith
+
+-- what is made of one item more
+pub map_more : {A : Type 0} (g : A → List ℕ) (xs : List A) (i : ℕ) (x : A) → slice_get xs i ≡ Some x → flat_map g (take (i + 1) xs) ≡ flat_map g (take i xs) ++ g x
+map_more {A} g xs i x at =
+    ap (λ (z : List A). flat_map g z) (one_more xs i x at) ∙ flat_map-append g (take i xs) (x ∷ []) ∙ ap (λ (z : List ℕ). flat_map g (take i xs) ++ z) (append-nil (g x))
+
+-- the same where an item is read by its place
+pub map_more_at : {A : Type 0} (g : A → List ℕ) (xs : List A) (i : ℕ) (d : A) → i < length xs → flat_map g (take (i + 1) xs) ≡ flat_map g (take i xs) ++ g (get_or xs i d)
+map_more_at g xs i d lt = map_more g xs i (get_or xs i d) (slice_get-get_or xs i d lt)
 
 -- so many texts have the methods of one class more
 pub more_texts : (classes : List ClassFile) (i : ℕ) (f : ClassFile) → slice_get classes i ≡ Some f → length (flat_map method_texts (take (i + 1) classes)) ≡ length (flat_map method_texts (take i classes)) + length f.methods

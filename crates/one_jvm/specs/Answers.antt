@@ -5,16 +5,17 @@ use Rattle.cjvm_io.specs.Faults.{Rose}
 use Rattle.cjvm_io.specs.Shelves.{Files}
 use Rattle.cjvm_io.specs.Sinks.{Showing, GainsFront}
 use Rattle.class_format.specs.declared.class.ClassFile.{ClassFile}
-use Rattle.thin_file.specs.declared.thin.ThinCode.{ThinCode}
-use Rattle.thin_machine.specs.declared.state.Choice.{Choice}
+use Rattle.machine_state.specs.declared.state.Choice.{Choice}
+use Rattle.machine_state.specs.State.{State}
+use Rattle.program_image.specs.Program.{Program}
 use Rattle.one_jvm.specs.declared.outcome.Stop.{Stop}
 use Rattle.one_jvm.specs.declared.outcome.Stop.TheVariants as stop
 use Rattle.one_jvm.specs.declared.outcome.Refusal.{Refusal}
-use Rattle.one_jvm.specs.declared.outcome.Refusal.TheVariants.{Usage, File, Link, Flow, NoFile, ReadFault, WriteFault, TooLong, NotYet, NoMemory}
+use Rattle.one_jvm.specs.declared.outcome.Refusal.TheVariants.{Usage, File, Link, Flow, NoFile, ReadFault, WriteFault, TooLong, NoMemory}
 use Rattle.one_jvm.specs.Words.{Asked, IsCall, IsSomeCall, IsCheck, name_at}
-use Rattle.one_jvm.specs.Verdicts.{AreClassFiles, Names, StopsFor, IsThinProgram, IsChecked, IsVerdict}
-use Rattle.one_jvm.specs.Outcomes.{place_of, told_text, accepted_text, report}
-use Rattle.one_jvm.specs.Runs.{RanTo}
+use Rattle.one_jvm.specs.Verdicts.{AreClassFiles, Names, StopsFor, IsProgram, IsChecked, IsVerdict}
+use Rattle.one_jvm.specs.Outcomes.{place_of, told_text, accepted_text, ending_text, report}
+use Rattle.one_jvm.specs.Runs.{LeadsTo, IsEnd, RanTo}
 
 -- ---- the cause of a refusal, apart from faults of standard error
 
@@ -56,7 +57,6 @@ IsHindrance told words faults (Link e) = ⊥
 IsHindrance told words faults (Flow e) = ⊥
 IsHindrance told words faults (NoFile k) = ⊥
 IsHindrance told words faults (TooLong k) = ⊥
-IsHindrance told words faults NotYet = ⊥
 
 -- a hindrance kept the call from its verdict; it comes only where the words are a command's
 pub record IsHindered (told : Option Files) (words : List (List ℕ)) (faults : Faults)
@@ -108,21 +108,21 @@ IsUnwritten words stop refusal =
     (stop ≡ None)
     × (¬ IsCheck words ⊎ ((refusal ≢ None) × (refusal ≢ Some WriteFault)))
 
--- where no run was begun the order is empty; where one was, it is one of the file's program
+-- where no run was begun the order is empty; where one was, it is one of the files' program
 abbrev pub Ran : List (List ℕ) → Option Files → Showing → Showing → List Choice → Option Stop
     → Option Refusal → Type 0
 Ran words told before now order None refusal = (order ≡ []) × Wrote words told before now refusal
 Ran words told before now order (Some s) refusal =
-    (code : ThinCode) × Names told words (IsThinProgram code) × RanTo code order before now s
+    (p : Program) × Names told words (IsProgram p) × RanTo p order before now s
 
--- the end of a run is the refusal's, where there is one
+-- a run is refused where a write of its output failed or memory ran out
 abbrev pub refusal_of : Stop → Option Refusal
-refusal_of stop.Done = None
 refusal_of stop.WriteFault = Some WriteFault
 refusal_of stop.NoMemory = Some NoMemory
+refusal_of _ = None
 
--- of words that don't ask to check files: a run was begun exactly where the files were read, are
--- accepted and are one thin file, want of memory aside; a check begins none
+-- of words that don't ask to check files: a run was begun exactly where the files were read and are
+-- accepted, want of memory aside; a check begins none
 abbrev pub Agrees : List (List ℕ) → Option Stop → Option Refusal → Type 0
 Agrees words (Some s) refusal = ¬ IsCheck words × (refusal ≡ refusal_of s)
 Agrees words None refusal = IsCheck words ⊎ ((refusal ≢ None) × (refusal ≢ Some WriteFault))
@@ -149,21 +149,39 @@ IsNamed words e name =
     (asked : Asked) (k : ℕ) → IsCall words asked → place_of e ≡ Some k
     → name ≡ name_at asked.files k
 
--- what the report of a refusal speaks of
-abbrev pub IsSubject : Option Files → List (List ℕ) → Option Refusal → List ℕ → Type 0
-IsSubject told words None subject = Unit {0}
-IsSubject told words (Some (Link e)) subject = Names told words (IsToldText (Link e) subject)
-IsSubject told words (Some (Flow e)) subject = Names told words (IsToldText (Flow e) subject)
-IsSubject told words (Some e) subject = IsNamed words e subject
+-- the text tells of the order's end, and of what nothing caught until then
+pub record TellsEnd (p : Program) (order : List Choice) (s : Stop) (text : List ℕ) : Type 0 where
+  pub last : State
+  pub leads : LeadsTo p order last
+  pub is : text ≡ ending_text p s last.uncaught
 
--- a refusal with this cause, in accord with the run, was reported
+-- what the end of a call that isn't refused tells: a check's nothing, a run's that of the files'
+-- program
+abbrev pub IsEndText : Option Files → List (List ℕ) → List Choice → Option Stop → List ℕ
+    → Type 0
+IsEndText told words order None text = text ≡ []
+IsEndText told words order (Some s) text =
+    (p : Program) × Names told words (IsProgram p) × TellsEnd p order s text
+
+-- what the report of a call speaks of
+abbrev pub IsSubject : Option Files → List (List ℕ) → List Choice → Option Stop → Option Refusal
+    → List ℕ → Type 0
+IsSubject told words order stop None subject = IsEndText told words order stop subject
+IsSubject told words order stop (Some (Link e)) subject =
+    Names told words (IsToldText (Link e) subject)
+IsSubject told words order stop (Some (Flow e)) subject =
+    Names told words (IsToldText (Flow e) subject)
+IsSubject told words order stop (Some e) subject = IsNamed words e subject
+
+-- a refusal with this cause, in accord with the run, was reported, or the end of the run was
 pub record Reports (words : List (List ℕ)) (told : Option Files) (faults : Faults)
-    (before now : Showing) (stop : Option Stop) (refusal : Option Refusal) : Type 0 where
+    (before now : Showing) (order : List Choice) (stop : Option Stop) (refusal : Option Refusal)
+    : Type 0 where
   pub plain : Option Refusal
   pub subject : List ℕ
   pub cause : Because words told faults plain
   pub agrees : Agrees words stop plain
-  pub spoken : IsSubject told words plain subject
+  pub spoken : IsSubject told words order stop plain subject
   pub closed : IsClosed subject plain before now refusal
 
 -- ---- statuses
@@ -182,6 +200,38 @@ pub record Exactly (status k : ℕ) (others : List ℕ) (cause : Type 0) : Type 
   pub only : status ≡ k → cause
   pub always : cause → OneOf (k ∷ others) status
 
+-- the statuses of a call that isn't refused
+abbrev pub ends : List ℕ
+ends = 0 ∷ 1 ∷ 8 ∷ 9 ∷ 10 ∷ []
+
+-- one of these statuses comes only with this cause, and with the cause one of them comes, or one of
+-- these others
+pub record ExactlyOneOf (status : ℕ) (ks others : List ℕ) (cause : Type 0) : Type 0 where
+  pub only : OneOf ks status → cause
+  pub always : cause → OneOf ks status ⊎ OneOf others status
+
+-- the statuses of a write fault and of want of memory
+abbrev pub broken : List ℕ
+broken = 6 ∷ 20 ∷ []
+
+-- the status comes with the end of the order, faults and want of memory aside: all threads have
+-- ended, and nothing is uncaught or something is; none of those that haven't ended can take a step;
+-- one has taken as many as it may; or one would start one thread more than there may be
+pub record HasEndStatus (p : Program) (order : List Choice) (status : ℕ) : Type 0 where
+  pub last : State
+  pub leads : LeadsTo p order last
+  pub done : Exactly status 0 broken (IsEnd p last stop.Done)
+  pub uncaught : Exactly status 1 broken (IsEnd p last stop.Uncaught)
+  pub deadlock : Exactly status 9 broken (IsEnd p last stop.Deadlock)
+  pub step_limit : status ≡ 8 → (t : ℕ) × IsEnd p last (stop.StepLimit t)
+  pub threads_full : status ≡ 10 → (t : ℕ) × IsEnd p last (stop.ThreadsFull t)
+
+-- the status of a run is that of the end of its order
+abbrev pub EndsRun : List (List ℕ) → Option Files → List Choice → Option Stop → ℕ → Type 0
+EndsRun words told order None status = Unit {0}
+EndsRun words told order (Some s) status =
+    (p : Program) × Names told words (IsProgram p) × HasEndStatus p order status
+
 -- where the shelf tells its files
 abbrev pub IfTold : Option Files → (Files → Type 0) → Type 0
 IfTold told P = (fs : Files) → told ≡ Some fs → P fs
@@ -192,3 +242,9 @@ abbrev pub Answers : Option Files → List (List ℕ) → ℕ → ℕ
     → (Option Files → List (List ℕ) → Type 0) → Type 0
 Answers told words status k cause =
     IfTold told (λ fs. Exactly status k hindered (cause (Some fs) words))
+
+-- one of these statuses comes exactly with this cause, in the same way
+abbrev pub AnswersOneOf : Option Files → List (List ℕ) → ℕ → List ℕ
+    → (Option Files → List (List ℕ) → Type 0) → Type 0
+AnswersOneOf told words status ks cause =
+    IfTold told (λ fs. ExactlyOneOf status ks hindered (cause (Some fs) words))

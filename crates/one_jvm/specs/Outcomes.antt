@@ -3,6 +3,7 @@ use Rattle.std.specs.Prelude.{ℕ, Bool, true, false, codes, decimal, filter, le
 use Rattle.std.specs.List.{flat_map, sum_by}
 use Rattle.jvm_base.specs.Text.{text_bytes}
 use Rattle.jvm_base.specs.Words.{from}
+use Rattle.jvm_base.specs.declared.value.Uncaught.{Uncaught}
 use Rattle.boot_table.specs.Files.{boot_files}
 use Rattle.class_format.specs.declared.class.ClassFile.{ClassFile}
 use Rattle.class_format.specs.declared.class.MethodItem.{MethodItem}
@@ -13,10 +14,13 @@ use Rattle.link_rules.specs.declared.error.LinkErr.TheVariants.{Code, Bad, NoMem
 use Rattle.link_rules.specs.Members.{method_name, method_desc}
 use Rattle.link_rules.specs.Reasons.{why_text}
 use Rattle.class_file.specs.Reasons.{reason}
+use Rattle.program_image.specs.Program.{Program}
 use Rattle.flow_verifier.specs.Reasons.{broken_rule_text}
 use Rattle.flow_verifier.specs.declared.answer.FlowErr.{FlowErr}
+use Rattle.one_jvm.specs.declared.outcome.Stop.{Stop}
+use Rattle.one_jvm.specs.declared.outcome.Stop.TheVariants as stop
 use Rattle.one_jvm.specs.declared.outcome.Refusal.{Refusal}
-use Rattle.one_jvm.specs.declared.outcome.Refusal.TheVariants.{Usage, File, Link, Flow, NoFile, ReadFault, WriteFault, TooLong, NotYet}
+use Rattle.one_jvm.specs.declared.outcome.Refusal.TheVariants.{Usage, File, Link, Flow, NoFile, ReadFault, WriteFault, TooLong}
 use Rattle.one_jvm.specs.declared.outcome.Refusal.TheVariants as refusals
 
 -- the exit status of a refusal; 0 where there is none
@@ -30,8 +34,23 @@ status_of (Some (NoFile k)) = 4
 status_of (Some (ReadFault k)) = 5
 status_of (Some WriteFault) = 6
 status_of (Some (TooLong k)) = 11
-status_of (Some NotYet) = 14
 status_of (Some refusals.NoMemory) = 20
+
+-- the exit status of a call that isn't refused: that of the end of its run
+abbrev pub end_status : Option Stop → ℕ
+end_status None = 0
+end_status (Some stop.Done) = 0
+end_status (Some stop.Uncaught) = 1
+end_status (Some (stop.StepLimit t)) = 8
+end_status (Some stop.Deadlock) = 9
+end_status (Some (stop.ThreadsFull t)) = 10
+end_status (Some stop.WriteFault) = 6
+end_status (Some stop.NoMemory) = 20
+
+-- the exit status of a call
+abbrev pub outcome_status : Option Stop → Option Refusal → ℕ
+outcome_status stop None = end_status stop
+outcome_status stop (Some e) = status_of (Some e)
 
 -- the place of the file that a refusal names
 abbrev pub place_of : Refusal → Option ℕ
@@ -102,12 +121,34 @@ accepted_text classes =
     codes "accepted " ++ decimal (length classes)
     ++ (codes " classes " ++ decimal (sum_by coded_methods classes) ++ (codes " methods" ++ 10 ∷ []))
 
+-- ---- what is told of the end of a run
+
+-- the name of the class of a number, as its file has it
+abbrev pub class_text : Program → ℕ → List ℕ
+class_text p class = from [] (λ c. text_bytes c.name) (slice_get p.classes class)
+
+-- the line of an exception that nothing caught
+abbrev pub uncaught_text : Program → Uncaught → List ℕ
+uncaught_text p u =
+    codes "uncaught " ++ decimal u.thread ++ codes " " ++ class_text p u.class ++ 10 ∷ []
+
+-- the line of a run that ended before its threads did
+abbrev pub stop_text : Stop → List ℕ
+stop_text (stop.StepLimit t) = codes "cjvm: step limit thread " ++ decimal t ++ 10 ∷ []
+stop_text stop.Deadlock = codes "cjvm: deadlock" ++ 10 ∷ []
+stop_text (stop.ThreadsFull t) = codes "cjvm: threads full" ++ 10 ∷ []
+stop_text _ = []
+
+-- all of these lines
+abbrev pub ending_text : Program → Stop → List Uncaught → List ℕ
+ending_text p stop uncaught = flat_map (uncaught_text p) uncaught ++ stop_text stop
+
 -- ---- the report
 
--- what is written to standard error; the subject is the name of the file at the refusal's place, or
--- what a refusal tells of class files
+-- what is written to standard error; the subject is the name of the file at the refusal's place,
+-- what a refusal tells of class files, or what the end of a run tells
 abbrev pub report : List ℕ → Option Refusal → List ℕ
-report subject None = []
+report subject None = subject
 report subject (Some Usage) = codes "cjvm: usage" ++ 10 ∷ []
 report subject (Some (File k why)) =
     codes "cjvm: refused " ++ subject ++ codes " " ++ (reason why ++ 10 ∷ [])
@@ -117,5 +158,4 @@ report subject (Some (NoFile k)) = codes "cjvm: no file " ++ subject ++ 10 ∷ [
 report subject (Some (ReadFault k)) = codes "cjvm: read fault " ++ subject ++ 10 ∷ []
 report subject (Some WriteFault) = codes "cjvm: write fault" ++ 10 ∷ []
 report subject (Some (TooLong k)) = codes "cjvm: file too long " ++ subject ++ 10 ∷ []
-report subject (Some NotYet) = codes "cjvm: not yet" ++ 10 ∷ []
 report subject (Some refusals.NoMemory) = codes "cjvm: want of memory" ++ 10 ∷ []

@@ -11,13 +11,13 @@ use Rattle.class_file.specs.declared.error.ClassErr.{ClassErr}
 use Rattle.class_file.specs.Refused.{IsRefused}
 use Rattle.class_names.specs.Classes.{this_name}
 use Rattle.link_rules.specs.declared.error.LinkErr.{LinkErr}
+use Rattle.class_link.specs.Linked.{linked}
 use Rattle.class_link.specs.Refusals.{link_refusals}
 use Rattle.flow_verifier.specs.declared.answer.FlowErr.{FlowErr}
 use Rattle.acceptance.specs.Accepted as accepting
-use Rattle.thin_file.specs.declared.thin.ThinCode.{ThinCode}
-use Rattle.thin_file.specs.Thin.{IsThin}
+use Rattle.program_image.specs.Program.{Program}
 use Rattle.one_jvm.specs.declared.outcome.Refusal.{Refusal}
-use Rattle.one_jvm.specs.declared.outcome.Refusal.TheVariants.{Usage, File, Link, Flow, NoFile, ReadFault, WriteFault, TooLong, NotYet, NoMemory}
+use Rattle.one_jvm.specs.declared.outcome.Refusal.TheVariants.{Usage, File, Link, Flow, NoFile, ReadFault, WriteFault, TooLong, NoMemory}
 use Rattle.one_jvm.specs.declared.words.Command.TheVariants.{Run, Check}
 use Rattle.one_jvm.specs.Words.{Asked, IsCall, IsNoCall}
 
@@ -106,24 +106,12 @@ pub record AreUntyped (e : FlowErr) (asked : Asked) (contents : List (Option (Li
   pub are : AreClassFiles contents classes
   pub untyped : accepting.AreUntyped e classes (main_of asked.main classes)
 
--- one thin file alone, which has this program
-pub record IsThinFile (code : ThinCode) (contents : List (Option (List ℕ))) : Type 0 where
-  pub bytes : List ℕ
-  pub alone : contents ≡ Some bytes ∷ []
-  pub thin : IsThin bytes code
-
--- it is accepted, and to be run
-pub record IsThinProgram (code : ThinCode) (asked : Asked) (contents : List (Option (List ℕ)))
+-- accepted files that are to be run, and what they are linked to
+pub record IsProgram (p : Program) (asked : Asked) (contents : List (Option (List ℕ)))
     : Type 0 where
   pub run : asked.command ≡ Run
   pub accepted : AreAccepted asked contents
-  pub file : IsThinFile code contents
-
--- accepted files that are to be run, but are not one thin file alone
-pub record IsOtherProgram (asked : Asked) (contents : List (Option (List ℕ))) : Type 0 where
-  pub run : asked.command ≡ Run
-  pub accepted : AreAccepted asked contents
-  pub other : (code : ThinCode) → ¬ IsThinFile code contents
+  pub is : p ≡ linked accepted.classes (main_of asked.main accepted.classes)
 
 -- accepted files that are to be checked alone
 pub record IsChecked (asked : Asked) (contents : List (Option (List ℕ))) : Type 0 where
@@ -176,13 +164,9 @@ abbrev pub IsRefusedCall : Option Files → List (List ℕ) → Type 0
 IsRefusedCall told words =
     HasRefusedFile told words ⊎ (HasUnlinkedFiles told words ⊎ HasUntypedFiles told words)
 
--- the files are accepted and are to be run, but are not one thin file alone
-abbrev pub HasOtherFiles : Option Files → List (List ℕ) → Type 0
-HasOtherFiles told words = Names told words IsOtherProgram
-
--- one thin file that is to be run, accepted, whatever its program
-abbrev pub HasThinFile : Option Files → List (List ℕ) → Type 0
-HasThinFile told words = (code : ThinCode) × Names told words (IsThinProgram code)
+-- the files are to be run and are accepted, whatever their program
+abbrev pub HasProgram : Option Files → List (List ℕ) → Type 0
+HasProgram told words = (p : Program) × Names told words (IsProgram p)
 
 -- the files are to be checked, and are accepted
 abbrev pub HasCheckedFiles : Option Files → List (List ℕ) → Type 0
@@ -190,7 +174,7 @@ HasCheckedFiles told words = Names told words IsChecked
 
 -- what was asked can be done
 abbrev pub IsDoneCall : Option Files → List (List ℕ) → Type 0
-IsDoneCall told words = HasThinFile told words ⊎ HasCheckedFiles told words
+IsDoneCall told words = HasProgram told words ⊎ HasCheckedFiles told words
 
 -- ---- the verdict
 
@@ -204,7 +188,6 @@ IsVerdict told words (Some (TooLong k)) = StopsFor IsLong k told words
 IsVerdict told words (Some (File k why)) = StopsFor (IsRefusedFile why) k told words
 IsVerdict told words (Some (Link e)) = Names told words (AreRefused e)
 IsVerdict told words (Some (Flow e)) = Names told words (AreUntyped e)
-IsVerdict told words (Some NotYet) = HasOtherFiles told words
 IsVerdict told words (Some (ReadFault k)) = ⊥
 IsVerdict told words (Some WriteFault) = ⊥
 IsVerdict told words (Some NoMemory) = ⊥

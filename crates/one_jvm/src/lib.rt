@@ -1,6 +1,7 @@
 //! The top call: words, files and sinks of the caller, and a status.
 #![tactic(auto)]
 
+mod ending;
 mod laws;
 mod link_text;
 mod loading;

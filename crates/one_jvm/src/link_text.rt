@@ -15,7 +15,7 @@ use link_rules::{LinkErr, LinkWhy};
 use std::alloc::Global;
 
 /// Adds a text in modified UTF-8.
-fn push_text(alloc: Global, bytes: &mut Vec<u8>, text: &[u16]) -> Result<(), NoMemory>
+pub(crate) fn push_text(alloc: Global, bytes: &mut Vec<u8>, text: &[u16]) -> Result<(), NoMemory>
     ensures { OnOk result (bytes.new.items ≡ bytes.old.items ++ text_bytes text.now) }
 {
     let units = Units::from_slice(alloc, text)?;

@@ -1,9 +1,9 @@
 //! The files of a call, read and accepted.
 
-ghost use Rattle.std.specs.Prelude.{◌≡◌, ◌≤◌, [], length, All, MatchResult};
+ghost use Rattle.std.specs.Prelude.{◌≡◌, ◌≤◌, length, All, MatchResult};
 ghost use Rattle.class_format.specs.Meaning.{IsClass, Spells};
 ghost use Rattle.one_jvm.specs.Steps.Parts.{asked_by};
-ghost use Rattle.one_jvm.specs.Steps.Loading.{RefusesBytes, ReadsFile, Loads, IsFine, IsUnfit, IsOneThin, IsNotThin, IsTask, HasNoTask, IsSet, IsNotSet, IsTold, Programs};
+ghost use Rattle.one_jvm.specs.Steps.Loading.{RefusesBytes, ReadsFile, Loads, IsFine, IsUnfit, IsTask, IsSet, IsTold, Programs};
 
 use crate::link_text::link_text;
 use crate::main_class::main_of;
@@ -15,23 +15,16 @@ use cjvm_io::{Shelf, ShelfErr};
 use class_file::{ClassErr, read_class};
 use class_format::ClassFile;
 use jvm_base::{List, NoMemory};
+use program_image::Image;
 use std::alloc::Global;
-use thin_file::{ThinCode, ThinErr, read_thin};
 
 /// The greatest length of a class file, in bytes.
 const CLASS_FILE_LIMIT: u64 = 1_048_576;
 
-/// The class files of a call in order, and the bytes of the last one.
-#[derive(Drop)]
-struct Loaded {
-    classes: List<ClassFile>,
-    bytes: Vec<u8>,
-}
-
 /// What is to be done with accepted files: their program is run, or a line says that they are accepted.
 #[derive(Drop)]
 pub(crate) enum Task {
-    Run(ThinCode),
+    Run(Image),
     Tell(Vec<u8>),
 }
 
@@ -53,29 +46,20 @@ fn class_of(alloc: Global, file: u32, bytes: &[u8]) -> Result<ClassFile, Refusal
     }
 }
 
-/// The class file with its bytes.
-fn with_class(alloc: Global, file: u32, bytes: Vec<u8>) -> Result<(ClassFile, Vec<u8>), Refusal>
-    ensures { MatchResult result (λ r. Spells r.0 bytes.items × (r.1.items ≡ bytes.items))
-        (RefusesBytes file bytes.items) }
-{
-    let class = class_of(alloc, file, bytes.as_slice())?;
-    Ok((class, bytes))
-}
-
-/// The class file of a name, at a place among those of the call, with its bytes.
+/// The class file of a name, at a place among those of the call.
 fn read_file<S: Shelf>(
     alloc: Global,
     shelf: &mut S,
     file: u32,
     name: &str,
-) -> Result<(ClassFile, Vec<u8>), Refusal>
+) -> Result<ClassFile, Refusal>
     ensures files { S.files shelf.new ≡ S.files shelf.old }
     ensures later { S.faults shelf.old ≤ S.faults shelf.new }
-    ensures answer { ReadsFile (λ v. v.items) (S.files shelf.old) name.now file
-        (S.faults shelf.old) (S.faults shelf.new) result }
+    ensures answer { ReadsFile (S.files shelf.old) name.now file (S.faults shelf.old)
+        (S.faults shelf.new) result }
 {
     match shelf.read_file(alloc, name, CLASS_FILE_LIMIT) {
-        Ok(bytes) => with_class(alloc, file, bytes),
+        Ok(bytes) => class_of(alloc, file, bytes.as_slice()),
         Err(ShelfErr::NotThere) => Err(Refusal::NoFile(file)),
         Err(ShelfErr::TooLong) => Err(Refusal::TooLong(file)),
         Err(ShelfErr::Failed) => Err(Refusal::ReadFault(file)),
@@ -83,8 +67,12 @@ fn read_file<S: Shelf>(
     }
 }
 
-/// The class files of a call.
-fn load<S: Shelf>(alloc: Global, shelf: &mut S, request: &Request<'_>) -> Result<Loaded, Refusal>
+/// The class files of a call, in order.
+fn load<S: Shelf>(
+    alloc: Global,
+    shelf: &mut S,
+    request: &Request<'_>,
+) -> Result<List<ClassFile>, Refusal>
     requires few { length (asked_by request.now).files ≤ 1024 }
     ensures files { S.files shelf.new ≡ S.files shelf.old }
     ensures later { S.faults shelf.old ≤ S.faults shelf.new }
@@ -92,68 +80,53 @@ fn load<S: Shelf>(alloc: Global, shelf: &mut S, request: &Request<'_>) -> Result
         (S.faults shelf.new) result }
 {
     let mut classes = List::new(alloc);
-    let mut last = Vec::new(alloc);
     for file in 0..request.count() {
-        let (class, bytes) = read_file(alloc, shelf, file as u32, request.file(file))?;
+        let class = read_file(alloc, shelf, file as u32, request.file(file))?;
         if classes.push(class).is_err() {
             return Err(Refusal::NoMemory);
         }
-        last = bytes;
     }
-    Ok(Loaded {
-        classes,
-        bytes: last,
-    })
+    Ok(classes)
 }
 
-/// Whether class files are accepted, and the first refusal that they have otherwise.
+/// What class files are linked to where they are accepted, and the first refusal that they have
+/// otherwise.
 fn accept_classes(
     alloc: Global,
     request: &Request<'_>,
     classes: &List<ClassFile>,
-) -> Result<(), Refusal>
+) -> Result<Image, Refusal>
     requires few { length classes.now ≤ 1024 }
     requires formed { All IsClass classes.now }
-    ensures { MatchResult result (λ _. IsFine (asked_by request.now) classes.now)
+    ensures { MatchResult result (IsFine (asked_by request.now) classes.now)
         (IsUnfit (asked_by request.now) classes.now) }
 {
     let Ok(main) = main_of(alloc, request, classes.as_slice()) else {
         return Err(Refusal::NoMemory);
     };
     match accept(alloc, classes, &main) {
-        Ok(_) => Ok(()),
+        Ok(image) => Ok(image),
         Err(Rejection::Link(why)) => Err(Refusal::Link(why)),
         Err(Rejection::Flow(why)) => Err(Refusal::Flow(why)),
         Err(Rejection::NoMemory) => Err(Refusal::NoMemory),
     }
 }
 
-/// The program of accepted files, of which the last has these bytes; none where there isn't one thin
-/// file.
-fn thin_code(alloc: Global, request: &Request<'_>, bytes: &[u8]) -> Result<ThinCode, Refusal>
-    ensures { MatchResult result (IsOneThin (asked_by request.now) bytes.now)
-        (IsNotThin (asked_by request.now) bytes.now) }
-{
-    if request.count() != 1 {
-        return Err(Refusal::NotYet);
-    }
-    match read_thin(alloc, bytes) {
-        Ok(code) => Ok(code),
-        Err(ThinErr::NotThin) => Err(Refusal::NotYet),
-        Err(ThinErr::NoMemory) => Err(Refusal::NoMemory),
-    }
-}
-
 /// What is to be done with accepted files.
-fn task_of(alloc: Global, request: &Request<'_>, loaded: &Loaded) -> Result<Task, Refusal>
-    requires few { length loaded.now.classes ≤ 1024 }
-    requires formed { All IsClass loaded.now.classes }
-    ensures { MatchResult result (IsTask (asked_by request.now) loaded.now)
-        (HasNoTask (asked_by request.now) loaded.now) }
+fn task_of(
+    alloc: Global,
+    request: &Request<'_>,
+    classes: &List<ClassFile>,
+    image: Image,
+) -> Result<Task, Refusal>
+    requires few { length classes.now ≤ 1024 }
+    requires formed { All IsClass classes.now }
+    ensures { MatchResult result (IsTask (asked_by request.now) classes.now image)
+        (λ e. e ≡ Refusal.NoMemory) }
 {
     match request.command() {
-        Command::Run => Ok(Task::Run(thin_code(alloc, request, loaded.bytes.as_slice())?)),
-        Command::Check => match accepted_text(alloc, loaded.classes.as_slice()) {
+        Command::Run => Ok(Task::Run(image)),
+        Command::Check => match accepted_text(alloc, classes.as_slice()) {
             Ok(text) => Ok(Task::Tell(text)),
             Err(_) => Err(Refusal::NoMemory),
         },
@@ -161,14 +134,18 @@ fn task_of(alloc: Global, request: &Request<'_>, loaded: &Loaded) -> Result<Task
 }
 
 /// What is to be done with class files, or why it isn't done.
-fn accepted_task(alloc: Global, request: &Request<'_>, loaded: &Loaded) -> Result<Task, Refusal>
-    requires few { length loaded.now.classes ≤ 1024 }
-    requires formed { All IsClass loaded.now.classes }
-    ensures { MatchResult result (IsSet (asked_by request.now) loaded.now)
-        (IsNotSet (asked_by request.now) loaded.now) }
+fn accepted_task(
+    alloc: Global,
+    request: &Request<'_>,
+    classes: &List<ClassFile>,
+) -> Result<Task, Refusal>
+    requires few { length classes.now ≤ 1024 }
+    requires formed { All IsClass classes.now }
+    ensures { MatchResult result (IsSet (asked_by request.now) classes.now)
+        (IsUnfit (asked_by request.now) classes.now) }
 {
-    accept_classes(alloc, request, &loaded.classes)?;
-    task_of(alloc, request, loaded)
+    let image = accept_classes(alloc, request, classes)?;
+    task_of(alloc, request, classes, image)
 }
 
 /// A refusal that tells nothing of class files.
@@ -217,12 +194,12 @@ pub(crate) fn find_task<S: Shelf>(
     ensures answer { Programs (S.files shelf.old) (asked_by request.now) (S.faults shelf.old)
         (S.faults shelf.new) result }
 {
-    let loaded = match load(alloc, shelf, request) {
-        Ok(loaded) => loaded,
+    let classes = match load(alloc, shelf, request) {
+        Ok(classes) => classes,
         Err(refusal) => return Err(untold(alloc, refusal)),
     };
-    match accepted_task(alloc, request, &loaded) {
+    match accepted_task(alloc, request, &classes) {
         Ok(task) => Ok(task),
-        Err(refusal) => Err(tell(alloc, loaded.classes.as_slice(), refusal)),
+        Err(refusal) => Err(tell(alloc, classes.as_slice(), refusal)),
     }
 }

@@ -1,24 +1,29 @@
 //! What a call answers.
 
-ghost use Rattle.std.specs.Prelude.{◌≡◌};
-ghost use Rattle.one_jvm.specs.Outcomes.{place_of, status_of};
+ghost use Rattle.std.specs.Prelude.{◌≡◌, Some};
+ghost use Rattle.one_jvm.specs.Outcomes.{place_of, status_of, end_status, outcome_status};
 
 use class_file::ClassErr;
 use flow_verifier::FlowErr;
 use link_rules::LinkErr;
-use thin_machine::Order;
+use machine_state::Order;
 use thiserror::Error;
 
-/// How a run ended: every thread has ended and none left an exception uncaught; a write of the
-/// program's output failed; no memory was left.
+/// How a run ended: every thread has ended, and none left an exception uncaught, or some did; a
+/// thread took as many steps as it may; no thread that hasn't ended can take a step; a thread would
+/// start one more than there may be; a write of the program's output failed; no memory was left.
 #[derive(Clone, Copy, Debug, PartialEq, Eq)]
 pub enum Stop {
     Done,
+    Uncaught,
+    StepLimit { thread: u32 },
+    Deadlock,
+    ThreadsFull { thread: u32 },
     WriteFault,
     NoMemory,
 }
 
-/// Why a call didn't end with status 0. A file is named by its place, from 0, among the words that
+/// Why a call isn't done. A file is named by its place, from 0, among the words that
 /// name files.
 #[derive(Debug, Drop, Error)]
 pub enum Refusal {
@@ -47,9 +52,6 @@ pub enum Refusal {
     /// A file is longer than a class file may be. Status 11.
     #[error("file too long")]
     TooLong(u32),
-    /// The files are accepted, but they aren't run yet. Status 14.
-    #[error("not yet")]
-    NotYet,
     /// No memory was left. Status 20.
     #[error("want of memory")]
     NoMemory,
@@ -57,6 +59,8 @@ pub enum Refusal {
 
 /// What a call answers: a status for the caller's process; the order of all steps of the run, empty
 /// where none was begun; how the run ended, where one was begun; and what was refused, if anything.
+/// Nothing is refused where the status is 0, or that of the end of a run: 1 with exceptions that
+/// nothing caught, 8 at the limit on steps, 9 in a deadlock, 10 with too many threads.
 #[derive(Debug, Drop)]
 pub struct Outcome {
     pub status: u8,
@@ -78,19 +82,42 @@ pub(crate) fn place_of(refusal: &Refusal) -> Option<u32>
     }
 }
 
-/// The status of an outcome, by what was refused.
-pub(crate) fn status_of(refusal: &Option<Refusal>) -> u8
-    ensures { result ≡ status_of refusal.now }
+/// The status of a call that isn't refused, by the end of its run.
+fn end_status(stop: Option<Stop>) -> u8
+    ensures { result ≡ end_status stop }
+{
+    match stop {
+        None | Some(Stop::Done) => 0,
+        Some(Stop::Uncaught) => 1,
+        Some(Stop::StepLimit { .. }) => 8,
+        Some(Stop::Deadlock) => 9,
+        Some(Stop::ThreadsFull { .. }) => 10,
+        Some(Stop::WriteFault) => 6,
+        Some(Stop::NoMemory) => 20,
+    }
+}
+
+/// The status of a refusal.
+fn status_of(refusal: &Refusal) -> u8
+    ensures { result ≡ status_of (Some refusal.now) }
 {
     match refusal {
-        None => 0,
-        Some(Refusal::Usage) => 2,
-        Some(Refusal::File { .. } | Refusal::Link(_) | Refusal::Flow(_)) => 3,
-        Some(Refusal::NoFile(_)) => 4,
-        Some(Refusal::ReadFault(_)) => 5,
-        Some(Refusal::WriteFault) => 6,
-        Some(Refusal::TooLong(_)) => 11,
-        Some(Refusal::NotYet) => 14,
-        Some(Refusal::NoMemory) => 20,
+        Refusal::Usage => 2,
+        Refusal::File { .. } | Refusal::Link(_) | Refusal::Flow(_) => 3,
+        Refusal::NoFile(_) => 4,
+        Refusal::ReadFault(_) => 5,
+        Refusal::WriteFault => 6,
+        Refusal::TooLong(_) => 11,
+        Refusal::NoMemory => 20,
+    }
+}
+
+/// The status of an outcome, by the end of its run and by what was refused.
+pub(crate) fn outcome_status(stop: Option<Stop>, refusal: &Option<Refusal>) -> u8
+    ensures { result ≡ outcome_status stop refusal.now }
+{
+    match refusal {
+        None => end_status(stop),
+        Some(refusal) => status_of(refusal),
     }
 }

@@ -121,7 +121,6 @@ pub(crate) fn write_refusal<E: Sink>(
         Refusal::ReadFault(_) => write_line(err, b"cjvm: read fault ", subject),
         Refusal::WriteFault => write_all(err, b"cjvm: write fault\n"),
         Refusal::TooLong(_) => write_line(err, b"cjvm: file too long ", subject),
-        Refusal::NotYet => write_all(err, b"cjvm: not yet\n"),
         Refusal::NoMemory => write_all(err, b"cjvm: want of memory\n"),
     }
 }

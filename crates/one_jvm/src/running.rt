@@ -1,29 +1,25 @@
-//! A run of a thin program on the one machine.
+//! A run of a program on the one machine.
 
-ghost use Rattle.std.specs.Prelude.{◌≡◌, ◌↔◌, ◌≤◌, IsTrue, length, OnOk};
-ghost use Rattle.thin_file.specs.Thin.{IsThinCode};
-ghost use Rattle.thin_machine.specs.declared.state.End.TheVariants.{Going};
-ghost use Rattle.thin_machine.specs.Runs.{end_of};
+ghost use Rattle.std.specs.Prelude.{◌≡◌, ◌≤◌, [], option_map};
+ghost use Rattle.one_machine.specs.Ready.{CanRun};
 ghost use Rattle.cjvm_io.specs.Sinks.{shown};
 ghost use Rattle.one_jvm.specs.Runs.{RanTo};
+ghost use Rattle.one_jvm.specs.Steps.RunSteps.{stop_of, IsEndTold, TellsWhole};
 
+use crate::ending::ending_text;
 use crate::outcome::Stop;
 use cjvm_io::{Sink, write_all};
-use jvm_base::NoMemory;
-use thin_machine::{Choice, End, Machine, NO_NAME, Order, StepErr};
+use machine_state::Order;
+use program_image::Image;
+use scheduler::{Run, Stop as End};
 use std::alloc::Global;
-use thin_file::ThinCode;
 use thiserror::Error;
 
-/// How many steps are taken before what they printed is written.
-const BURST: u32 = 4096;
+/// How many steps each thread may take.
+const STEP_LIMIT: u64 = 5_000_000;
 
-/// The one choice that a thin program ever has.
-const CHOICE: Choice = Choice {
-    thread: 0,
-    pick: 0,
-    name: NO_NAME,
-};
+/// So long an order is not gone on with.
+const ORDER_LIMIT: u64 = 4_294_967_296;
 
 /// Why a run goes no further.
 #[derive(Clone, Copy, Debug, PartialEq, Eq, Error)]
@@ -34,103 +30,124 @@ enum Broken {
     NoMemory,
 }
 
-/// A run so far: the machine, the order that led to it, and how much of its output was written.
+/// A run so far, and how much of its output was written.
 #[derive(Drop)]
-struct Run {
-    machine: Machine,
-    order: Order,
+struct Turns {
+    run: Run,
     written: usize,
 }
 
-impl Run {
-    ghost use Rattle.one_jvm.specs.Steps.RunSteps.{IsRunOf, IsLater, Turned};
-
-    /// Whether the run is not at its end.
-    fn is_going(&self, code: &ThinCode) -> bool
-        requires code { IsThinCode code.now }
-        requires run { IsRunOf code.now self.now }
-        ensures { IsTrue result ↔ (end_of code.now self.now.machine ≡ Going) }
-    {
-        matches!(self.machine.end_of(code), End::Going)
-    }
-
-    /// Takes the next step.
-    fn step(&mut self, code: &ThinCode) -> Result<(), NoMemory>
-        requires code { IsThinCode code.now }
-        requires run { IsRunOf code.now self.old }
-        requires going { end_of code.now self.old.machine ≡ Going }
-        ensures run { OnOk result (IsRunOf code.now self.new) }
-        ensures later { OnOk result (IsLater self.old self.new) }
-    {
-        match self.machine.step(code, CHOICE) {
-            Ok(()) => self.order.push(CHOICE),
-            Err(StepErr::NoMemory) => Err(NoMemory),
-            Err(StepErr::NotEnabled(_)) => unreachable!(),
-        }
-    }
-
-    /// Takes steps up to the end of the run, at most so many.
-    fn burst(&mut self, code: &ThinCode) -> Result<(), NoMemory>
-        requires code { IsThinCode code.now }
-        requires run { IsRunOf code.now self.old }
-        requires going { end_of code.now self.old.machine ≡ Going }
-        ensures run { OnOk result (IsRunOf code.now self.new) }
-        ensures later { OnOk result (IsLater self.old self.new) }
-    {
-        self.step(code)?;
-        for _ in 1..BURST {
-            if !self.is_going(code) {
-                break;
-            }
-            self.step(code)?;
-        }
-        Ok(())
-    }
-
-    /// Takes steps, and writes what they printed.
-    fn turn<O: Sink>(&mut self, code: &ThinCode, out: &mut O) -> Result<(), Broken>
-        requires code { IsThinCode code.now }
-        requires run { IsRunOf code.now self.old }
-        requires going { end_of code.now self.old.machine ≡ Going }
-        requires written { self.old.written ≡ length self.old.machine.output }
-        ensures turned { Turned code.now self.old self.new (shown O.held O.faults out.old)
-            (shown O.held O.faults out.new) result }
-        ensures later { O.faults out.old ≤ O.faults out.new }
-    {
-        if self.burst(code).is_err() {
-            return Err(Broken::NoMemory);
-        }
-        let output = self.machine.output().as_slice();
-        if write_all(out, &output[self.written..]).is_err() {
-            return Err(Broken::WriteFault);
-        }
-        self.written = output.len();
-        Ok(())
+/// The end of a run in this crate's words.
+fn stop_of(end: End) -> Stop
+    ensures { result ≡ stop_of end }
+{
+    match end {
+        End::Done => Stop::Done,
+        End::Uncaught => Stop::Uncaught,
+        End::StepLimit { thread } => Stop::StepLimit { thread },
+        End::Deadlock => Stop::Deadlock,
+        End::ThreadsFull { thread } => Stop::ThreadsFull { thread },
     }
 }
 
-/// Runs a thin program to its end, and writes its output while it runs. The order is empty where
-/// memory ran out.
-pub(crate) fn run_program<O: Sink>(alloc: Global, code: &ThinCode, out: &mut O) -> (Order, Stop)
-    requires { IsThinCode code.now }
-    ensures ran { RanTo code.now result.0 (shown O.held O.faults out.old)
-        (shown O.held O.faults out.new) result.1 }
-    ensures later { O.faults out.old ≤ O.faults out.new }
+/// The same where there is an end.
+fn stop_at(end: Option<End>) -> Option<Stop>
+    ensures { result ≡ option_map stop_of end }
 {
-    let Ok(machine) = Machine::new(alloc, code) else {
-        return (Order::new(alloc), Stop::NoMemory);
-    };
-    let mut run = Run {
-        machine,
-        order: Order::new(alloc),
-        written: 0,
-    };
-    'turns: while run.is_going(code) {
-        match run.turn(code, out) {
-            Ok(()) => {}
-            Err(Broken::WriteFault) => return (run.order, Stop::WriteFault),
-            Err(Broken::NoMemory) => return (Order::new(alloc), Stop::NoMemory),
+    match end {
+        Some(end) => Some(stop_of(end)),
+        None => None,
+    }
+}
+
+/// What a run left: the order of its steps, how it ended, and what that tells.
+#[derive(Drop)]
+pub(crate) struct RunEnd {
+    pub(crate) order: Order,
+    pub(crate) stop: Stop,
+    pub(crate) text: Vec<u8>,
+}
+
+/// A run that a fault cut off.
+fn cut_off(alloc: Global, order: Order, stop: Stop) -> RunEnd
+    ensures order { result.order ≡ order }
+    ensures stop { result.stop ≡ stop }
+    ensures text { result.text.items ≡ [] }
+{
+    RunEnd {
+        order,
+        stop,
+        text: Vec::new(alloc),
+    }
+}
+
+/// A run that came to its end.
+fn end_run(alloc: Global, image: &Image, run: Run, stop: Stop) -> RunEnd
+    ensures order { result.order ≡ run.order }
+    ensures told { IsEndTold image.now run.machine.state.uncaught stop result.stop result.text.items }
+{
+    match ending_text(alloc, image, stop, run.uncaught()) {
+        Ok(text) => RunEnd {
+            order: run.into_order(),
+            stop,
+            text,
+        },
+        Err(_) => cut_off(alloc, run.into_order(), Stop::NoMemory),
+    }
+}
+
+impl Turns {
+    ghost use Rattle.one_jvm.specs.Steps.RunSteps.{IsRunOf, Turned};
+
+    /// Takes steps, and writes what they printed.
+    fn turn<O: Sink>(
+        &mut self,
+        alloc: Global,
+        image: &Image,
+        out: &mut O,
+    ) -> Result<Option<Stop>, Broken>
+        requires { IsRunOf image.now self.old }
+        ensures turned { Turned image.now self.old self.new (shown O.held O.faults out.old)
+            (shown O.held O.faults out.new) result }
+        ensures later { O.faults out.old ≤ O.faults out.new }
+    {
+        let Ok(end) = self.run.burst(alloc, image) else {
+            return Err(Broken::NoMemory);
+        };
+        let output = self.run.output();
+        match write_all(out, &output[self.written..]) {
+            Ok(()) => {
+                self.written = output.len();
+                Ok(stop_at(end))
+            }
+            Err(_) => Err(Broken::WriteFault),
         }
     }
-    (run.order, Stop::Done)
+}
+
+/// Runs a program to its end, and writes its output while it runs.
+pub(crate) fn run_program<O: Sink>(alloc: Global, image: &Image, out: &mut O) -> RunEnd
+    requires { CanRun image.now }
+    ensures ran { RanTo image.now result.order (shown O.held O.faults out.old)
+        (shown O.held O.faults out.new) result.stop }
+    ensures told { TellsWhole image.now result.order result.stop result.text.items }
+    ensures later { O.faults out.old ≤ O.faults out.new }
+{
+    let Ok(run) = Run::new(alloc, image, &[], STEP_LIMIT) else {
+        return cut_off(alloc, Order::new(alloc), Stop::NoMemory);
+    };
+    let mut turns = Turns { run, written: 0 };
+    'turns: while turns.run.order().len() < ORDER_LIMIT {
+        match turns.turn(alloc, image, out) {
+            Ok(None) => {}
+            Ok(Some(stop)) => return end_run(alloc, image, turns.run, stop),
+            Err(Broken::WriteFault) => {
+                return cut_off(alloc, turns.run.into_order(), Stop::WriteFault);
+            }
+            Err(Broken::NoMemory) => {
+                return cut_off(alloc, turns.run.into_order(), Stop::NoMemory);
+            }
+        }
+    }
+    cut_off(alloc, turns.run.into_order(), Stop::NoMemory)
 }

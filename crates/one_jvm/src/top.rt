@@ -4,25 +4,28 @@ ghost use Rattle.std.specs.Prelude.{◌≡◌, ◌≢◌, ◌≤◌, ◌↔◌, 
 ghost use Rattle.cjvm_io.specs.Faults.{Rose};
 ghost use Rattle.cjvm_io.specs.Sinks.{shown};
 ghost use Rattle.one_jvm.specs.Words.{IsNoCall, IsCheck, texts};
-ghost use Rattle.one_jvm.specs.Verdicts.{LacksFile, HasLongFile, HasOtherFiles, IsRefusedCall, IsDoneCall};
-ghost use Rattle.one_jvm.specs.Outcomes.{status_of};
-ghost use Rattle.one_jvm.specs.Answers.{Because, Ran, Agrees, IsUnwritten, Says, the_faults, refusal_of, Exactly, Answers, IsClosed, Reports};
+ghost use Rattle.one_jvm.specs.Verdicts.{LacksFile, HasLongFile, IsRefusedCall, IsDoneCall};
+ghost use Rattle.one_jvm.specs.Outcomes.{outcome_status};
+ghost use Rattle.one_jvm.specs.Answers.{Because, Ran, Agrees, IsUnwritten, Says, the_faults, refusal_of, OneOf, ends, Exactly, Answers, AnswersOneOf, EndsRun, IsClosed, Reports};
 ghost use Rattle.one_jvm.specs.Runs.{RanTo};
-ghost use Rattle.one_jvm.specs.Steps.Speaking.{IsToldOf, Speaks};
+ghost use Rattle.one_jvm.specs.Steps.RunSteps.{TellsWhole};
+ghost use Rattle.one_jvm.specs.Steps.Speaking.{IsToldOf, IsSilent, Speaks};
 ghost use Rattle.one_jvm.specs.declared.outcome.Stop.{Stop};
-ghost use Rattle.thin_file.specs.Thin.{IsThinCode};
+ghost use Rattle.one_machine.specs.Ready.{CanRun};
 
 use crate::loading::{Task, find_task};
-use crate::outcome::{Outcome, Refusal, Stop, status_of};
+use crate::outcome::{Outcome, Refusal, Stop, outcome_status};
 use crate::report::write_refusal;
-use crate::running::run_program;
+use crate::running::{RunEnd, run_program};
 use crate::words::{name_of, read_words};
 use cjvm_io::{Failed, Shelf, Sink, write_all};
-use thin_machine::Order;
+use machine_state::Order;
+use program_image::Image;
+use runnable_programs::accepted_can_run;
 use std::alloc::Global;
-use thin_file::ThinCode;
 
-/// What a call answers, faults of standard error aside, and what its refusal tells of class files.
+/// What a call answers, faults of standard error aside, and what its refusal tells of class files,
+/// or the end of its run.
 #[derive(Drop)]
 struct Verdict {
     order: Order,
@@ -36,9 +39,13 @@ fn refusal_of(stop: Stop) -> Option<Refusal>
     ensures { result ≡ refusal_of stop }
 {
     match stop {
-        Stop::Done => None,
         Stop::WriteFault => Some(Refusal::WriteFault),
         Stop::NoMemory => Some(Refusal::NoMemory),
+        Stop::Done
+        | Stop::Uncaught
+        | Stop::StepLimit { .. }
+        | Stop::Deadlock
+        | Stop::ThreadsFull { .. } => None,
     }
 }
 
@@ -55,25 +62,25 @@ fn refused(alloc: Global, refusal: Refusal, text: Vec<u8>) -> Verdict
 }
 
 /// Runs a program.
-fn run<O: Sink>(alloc: Global, code: &ThinCode, out: &mut O) -> Verdict
-    requires { IsThinCode code.now }
+fn run<O: Sink>(alloc: Global, image: &Image, out: &mut O) -> Verdict
+    requires { CanRun image.now }
     ensures ran { (s : Stop) × (result.stop ≡ Some s) × (result.refusal ≡ refusal_of s)
-        × RanTo code.now result.order (shown O.held O.faults out.old)
-        (shown O.held O.faults out.new) s }
+        × RanTo image.now result.order (shown O.held O.faults out.old)
+        (shown O.held O.faults out.new) s × TellsWhole image.now result.order s result.text.items }
     ensures later { O.faults out.old ≤ O.faults out.new }
 {
-    let (order, stop) = run_program(alloc, code, out);
+    let RunEnd { order, stop, text } = run_program(alloc, image, out);
     Verdict {
         order,
         stop: Some(stop),
         refusal: refusal_of(stop),
-        text: Vec::new(alloc),
+        text,
     }
 }
 
 /// Says that the files are accepted, by this line.
 fn say<O: Sink>(alloc: Global, line: &[u8], out: &mut O) -> Verdict
-    ensures no_run { (result.stop ≡ None) × (result.order ≡ []) }
+    ensures no_run { (result.stop ≡ None) × (result.order ≡ []) × (result.text.items ≡ []) }
     ensures said { Says line.now (shown O.held O.faults out.old) (shown O.held O.faults out.new)
         result.refusal }
     ensures later { O.faults out.old ≤ O.faults out.new }
@@ -98,7 +105,9 @@ fn judge<S: Shelf, O: Sink>(alloc: Global, words: &[String], shelf: &mut S, out:
     ensures run { Ran (texts words.now) (S.files shelf.old) (shown O.held O.faults out.old)
         (shown O.held O.faults out.new) result.order result.stop result.refusal }
     ensures agrees { Agrees (texts words.now) result.stop result.refusal }
-    ensures tells { IsToldOf (S.files shelf.old) (texts words.now) result.refusal result.text.items }
+    ensures tells { IsToldOf (S.files shelf.old) (texts words.now) result.order result.stop
+        result.refusal result.text.items }
+    ensures silent { result.refusal ≡ None → IsSilent result.stop result.text.items }
     ensures files { S.files shelf.new ≡ S.files shelf.old }
     ensures read_faults { S.faults shelf.old ≤ S.faults shelf.new }
     ensures out_faults { O.faults out.old ≤ O.faults out.new }
@@ -109,42 +118,50 @@ fn judge<S: Shelf, O: Sink>(alloc: Global, words: &[String], shelf: &mut S, out:
         return refused(alloc, Refusal::Usage, Vec::new(alloc));
     };
     match find_task(alloc, shelf, &request) {
-        Ok(Task::Run(code)) => run(alloc, &code, out),
+        Ok(Task::Run(image)) => {
+            accepted_can_run();
+            run(alloc, &image, out)
+        }
         Ok(Task::Tell(line)) => say(alloc, line.as_slice(), out),
         Err(why) => refused(alloc, why.refusal, why.text),
     }
 }
 
-/// What the report of a refusal speaks of: the name of its file, or what it tells of class files.
+/// What a report speaks of: the name of the file that is refused, what the refusal tells of class
+/// files, or what the end of the run tells.
 fn subject_of<'a>(words: &'a [String], refusal: &Option<Refusal>, text: &'a [u8]) -> &'a [u8]
     ensures { Speaks (texts words.now) refusal.now text.now result.now }
 {
     match refusal {
-        None => b"",
-        Some(Refusal::Link(_) | Refusal::Flow(_)) => text,
+        None | Some(Refusal::Link(_) | Refusal::Flow(_)) => text,
         Some(refusal) => name_of(words, refusal).as_bytes(),
     }
 }
 
-/// Reports a refusal. A fault of standard error hides it.
+/// Reports a refusal, or what the end of a run tells. A fault of standard error hides it.
 fn close<E: Sink>(err: &mut E, subject: &[u8], refusal: Option<Refusal>) -> Option<Refusal>
     ensures closed { IsClosed subject.now refusal (shown E.held E.faults err.old)
         (shown E.held E.faults err.new) result }
-    ensures silent { refusal ≡ None → result ≡ None }
+    ensures silent { refusal ≡ None → subject.now ≡ [] → result ≡ None }
     ensures err_faults { E.faults err.old ≤ E.faults err.new }
-    ensures no_report { refusal ≡ None → err.new ≡ err.old }
+    ensures no_report { refusal ≡ None → subject.now ≡ [] → err.new ≡ err.old }
 {
-    let refusal = refusal?;
-    match write_refusal(err, subject, &refusal) {
-        Ok(()) => Some(refusal),
+    let written = match &refusal {
+        Some(refusal) => write_refusal(err, subject, refusal),
+        None if subject.is_empty() => Ok(()),
+        None => write_all(err, subject),
+    };
+    match written {
+        Ok(()) => refusal,
         Err(Failed) => Some(Refusal::WriteFault),
     }
 }
 
 /// Does what the words say. `run [--main C] FILE..` reads class files from the shelf and runs their
 /// program; its output goes to `out` burst by burst. `check [--main C] FILE..` accepts or refuses them
-/// in the same way, and says in `out` that they are accepted. At the end `err` gets a report, which is
-/// empty where the status is 0. `words` are those after the program's name. What a shelf or a sink
+/// in the same way, and says in `out` that they are accepted. At the end `err` gets a report of the
+/// refusal, or of exceptions that nothing caught and of a run that was ended; it is empty where the
+/// status is 0. `words` are those after the program's name. What a shelf or a sink
 /// holds is claimed only where it tells it.
 pub fn cjvm<S: Shelf, O: Sink, E: Sink>(
     alloc: Global,
@@ -153,31 +170,36 @@ pub fn cjvm<S: Shelf, O: Sink, E: Sink>(
     out: &mut O,
     err: &mut E,
 ) -> Outcome
-    ensures status { result.status ≡ status_of result.refusal }
+    ensures status { result.status ≡ outcome_status result.stop result.refusal }
+    ensures unrefused { (result.refusal ≡ None) ↔ OneOf ends result.status }
 
     // Each status comes exactly with its cause, faults and want of memory aside.
     ensures usage { Exactly result.status 2 (6 ∷ []) (IsNoCall (texts words.now)) }
     ensures refused { Answers (S.files shelf.old) (texts words.now) result.status 3 IsRefusedCall }
     ensures no_file { Answers (S.files shelf.old) (texts words.now) result.status 4 LacksFile }
     ensures too_long { Answers (S.files shelf.old) (texts words.now) result.status 11 HasLongFile }
-    ensures not_yet { Answers (S.files shelf.old) (texts words.now) result.status 14 HasOtherFiles }
-    ensures ended { Answers (S.files shelf.old) (texts words.now) result.status 0 IsDoneCall }
+    ensures ended { AnswersOneOf (S.files shelf.old) (texts words.now) result.status ends IsDoneCall }
     ensures read_fault { result.status ≡ 5 → Rose (S.faults shelf.old) (S.faults shelf.new) }
     ensures write_fault { result.status ≡ 6 → Rose (O.faults out.old) (O.faults out.new)
         ⊎ Rose (E.faults err.old) (E.faults err.new) }
 
-    // The order is a legal one of the files' program and whole, and `out` gained its output; or no run
-    // was begun, and `out` gained the line of accepted files, or nothing.
+    // The order is a legal one of the files' program and whole, its end is that of the status, and
+    // `out` gained its output; or no run was begun, and `out` gained the line of accepted files, or
+    // nothing.
     ensures done { ¬ IsCheck (texts words.now)
         → (result.status ≡ 0) ↔ (result.stop ≡ Some Stop.Done) }
     ensures checked { IsCheck (texts words.now) → result.stop ≡ None }
     ensures run { Ran (texts words.now) (S.files shelf.old) (shown O.held O.faults out.old)
         (shown O.held O.faults out.new) result.order result.stop result.refusal }
+    ensures run_status { EndsRun (texts words.now) (S.files shelf.old) result.order result.stop
+        result.status }
 
-    // `err` gained the report of what was refused, or a front of it where a write to it failed.
+    // `err` gained the report of what was refused or of the end of the run, or a front of it where a
+    // write to it failed.
     ensures report { Reports (texts words.now) (S.files shelf.old)
         (the_faults (S.faults shelf.old) (S.faults shelf.new) (O.faults out.old) (O.faults out.new))
-        (shown E.held E.faults err.old) (shown E.held E.faults err.new) result.stop result.refusal }
+        (shown E.held E.faults err.old) (shown E.held E.faults err.new) result.order result.stop
+        result.refusal }
 
     // The shelf holds what it held, no count falls, and what isn't used is left as it was.
     ensures files { S.files shelf.new ≡ S.files shelf.old }
@@ -198,7 +220,7 @@ pub fn cjvm<S: Shelf, O: Sink, E: Sink>(
     let subject = subject_of(words, &refusal, text.as_slice());
     let refusal = close(err, subject, refusal);
     Outcome {
-        status: status_of(&refusal),
+        status: outcome_status(stop, &refusal),
         order,
         stop,
         refusal,
@@ -207,7 +229,7 @@ pub fn cjvm<S: Shelf, O: Sink, E: Sink>(
 
 /// The answer where no memory was left for the words: nothing is read, and that is reported.
 pub fn without_words<E: Sink>(alloc: Global, err: &mut E) -> Outcome
-    ensures status { result.status ≡ status_of result.refusal }
+    ensures status { result.status ≡ outcome_status None result.refusal }
     ensures report { IsClosed [] (Some Refusal.NoMemory) (shown E.held E.faults err.old)
         (shown E.held E.faults err.new) result.refusal }
     ensures no_run { (result.stop ≡ None) × (result.order ≡ []) }
@@ -215,7 +237,7 @@ pub fn without_words<E: Sink>(alloc: Global, err: &mut E) -> Outcome
 {
     let refusal = close(err, b"", Some(Refusal::NoMemory));
     Outcome {
-        status: status_of(&refusal),
+        status: outcome_status(None, &refusal),
         order: Order::new(alloc),
         stop: None,
         refusal,

@@ -16,7 +16,7 @@ const AS_IT_IS: (usize, u8) = (0, 0xca);
 fn refuses_words_and_files(rt: HostRuntime) -> Result<(), Fail> {
     let alloc = rt.alloc();
     let (at, byte) = AS_IT_IS;
-    let rows: [Row<'_>; 19] = [
+    let rows: [Row<'_>; 17] = [
         (&[], at, byte, 2, b"cjvm: usage\n"),
         (&["run"], at, byte, 2, b"cjvm: usage\n"),
         (&["check"], at, byte, 2, b"cjvm: usage\n"),
@@ -70,20 +70,12 @@ fn refuses_words_and_files(rt: HostRuntime) -> Result<(), Fail> {
             b"cjvm: refused q/Q link no-main main\n",
         ),
         (
-            &["run", "A.class", "B.class"],
-            at,
-            byte,
-            14,
-            b"cjvm: not yet\n",
-        ),
-        (
             &["run", "B.class", "A.class"],
             7,
             0x31,
             3,
             b"cjvm: refused A.class version 49.0\n",
         ),
-        (&["run", "B.class"], at, byte, 14, b"cjvm: not yet\n"),
     ];
     for (words, at, byte, status, report) in rows {
         let file = changed_file(alloc, at, byte)?;

@@ -1,23 +1,21 @@
 -- What reading files and accepting them answers.
-use Rattle.std.specs.Prelude.{◌≡◌, ◌⊎◌, ℕ, ◌≤◌, List, [], ◌∷◌, length, slice_get, Option, Some, None, Result, Ok, Err}
+use Rattle.std.specs.Prelude.{◌≡◌, ◌⊎◌, ℕ, List, slice_get, Option, Some, None, Result, Ok, Err}
 use Rattle.acceptance.specs.Accepted.{AreAccepted, AreUntyped}
 use Rattle.cjvm_io.specs.Faults.{Rose}
 use Rattle.cjvm_io.specs.Shelves.{Files, bytes_under}
 use Rattle.class_format.specs.declared.class.ClassFile.{ClassFile}
-use Rattle.class_format.specs.Meaning.{Spells}
 use Rattle.class_file.specs.Refused.{IsRefused}
+use Rattle.class_link.specs.Linked.{linked}
 use Rattle.class_link.specs.Refusals.{link_refusals}
-use Rattle.thin_file.specs.declared.thin.ThinCode.{ThinCode}
-use Rattle.thin_file.specs.Thin.{IsThin}
-use Rattle.one_jvm.specs.declared.loading.Loaded.{Loaded}
+use Rattle.program_image.specs.Program.{Program}
 use Rattle.one_jvm.specs.declared.loading.Refused.{Refused}
 use Rattle.one_jvm.specs.declared.loading.Task.{Task}
 use Rattle.one_jvm.specs.declared.loading.Task.TheVariants.{Run, Tell}
 use Rattle.one_jvm.specs.declared.outcome.Refusal.{Refusal}
-use Rattle.one_jvm.specs.declared.outcome.Refusal.TheVariants.{File, Link, Flow, NoFile, ReadFault, TooLong, NotYet, NoMemory}
+use Rattle.one_jvm.specs.declared.outcome.Refusal.TheVariants.{File, Link, Flow, NoFile, ReadFault, TooLong, NoMemory}
 use Rattle.one_jvm.specs.declared.words.Command.TheVariants as command
 use Rattle.one_jvm.specs.Words.{Asked}
-use Rattle.one_jvm.specs.Verdicts.{limit, IsMissing, IsLong, IsRefusedFile, IsClassFile, AreClassFiles, StopsAt, main_of, IsThinProgram, IsOtherProgram, AreUnder}
+use Rattle.one_jvm.specs.Verdicts.{limit, IsMissing, IsLong, IsRefusedFile, IsClassFile, AreClassFiles, StopsAt, main_of, IsProgram, AreUnder}
 use Rattle.one_jvm.specs.Verdicts as verdicts
 use Rattle.one_jvm.specs.Answers.{IsAny, IsAccepted, IsToldText}
 use Rattle.one_jvm.specs.Outcomes.{told_text, accepted_text}
@@ -36,11 +34,9 @@ pub record IsFound (told : Option Files) (name : List ℕ) (P : Option (List ℕ
   pub under : IsUnder told name content
   pub such : P content
 
--- the bytes of a class, not too many
-pub record IsRead (class : ClassFile) (bytes : List ℕ) (content : Option (List ℕ)) : Type 0 where
-  pub has : content ≡ Some bytes
-  pub short : length bytes ≤ limit
-  pub spells : Spells class bytes
+-- the file of this class
+abbrev pub IsRead : ClassFile → Option (List ℕ) → Type 0
+IsRead class content = IsClassFile content class
 
 -- the bytes of the file at a place are refused
 abbrev pub RefusesBytes : ℕ → List ℕ → Refusal → Type 0
@@ -62,10 +58,9 @@ FailsAt place before now NoMemory = Unit {0}
 FailsAt place before now _ = ⊥
 
 -- what reading the file of a name, at a place, answers
-abbrev pub ReadsFile : {B : Type 0} → (B → List ℕ) → Option Files → List ℕ → ℕ → ℕ → ℕ
-    → Result (ClassFile × B) Refusal → Type 0
-ReadsFile bytes_of told name place before now (Ok r) = IsFound told name (IsRead r.0 (bytes_of r.1))
-ReadsFile bytes_of told name place before now (Err e) =
+abbrev pub ReadsFile : Option Files → List ℕ → ℕ → ℕ → ℕ → Result ClassFile Refusal → Type 0
+ReadsFile told name place before now (Ok class) = IsFound told name (IsRead class)
+ReadsFile told name place before now (Err e) =
     IsFound told name (RefusesFile place e) ⊎ FailsAt place before now e
 
 -- ---- all files
@@ -77,17 +72,9 @@ pub record AreFound (told : Option Files) (names : List (List ℕ))
   pub under : AreUnder told names contents
   pub such : P contents
 
--- the last one, if there is one, has these bytes
-abbrev pub IsLast : List (Option (List ℕ)) → List ℕ → Type 0
-IsLast [] bytes = Unit {0}
-IsLast (content ∷ []) bytes = content ≡ Some bytes
-IsLast (content ∷ other ∷ contents) bytes = IsLast (other ∷ contents) bytes
-
--- they are the files of these classes, and these are the bytes of the last
-pub record AreRead (classes : List ClassFile) (bytes : List ℕ)
-    (contents : List (Option (List ℕ))) : Type 0 where
-  pub are : AreClassFiles contents classes
-  pub last : IsLast contents bytes
+-- they are the files of these classes
+abbrev pub AreRead : List ClassFile → List (Option (List ℕ)) → Type 0
+AreRead classes contents = AreClassFiles contents classes
 
 -- one of them is refused, behind files that are read
 abbrev pub RefusesFiles : Refusal → List (Option (List ℕ)) → Type 0
@@ -104,16 +91,18 @@ LoadFails told names before now NoMemory = Unit {0}
 LoadFails told names before now _ = ⊥
 
 -- what holds of the shelf's files where loading them answers so
-abbrev pub Loads : Option Files → List (List ℕ) → ℕ → ℕ → Result Loaded Refusal → Type 0
-Loads told names before now (Ok l) = AreFound told names (AreRead l.classes l.bytes.items)
+abbrev pub Loads : Option Files → List (List ℕ) → ℕ → ℕ → Result (List ClassFile) Refusal
+    → Type 0
+Loads told names before now (Ok classes) = AreFound told names (AreRead classes)
 Loads told names before now (Err e) =
     AreFound told names (RefusesFiles e) ⊎ LoadFails told names before now e
 
 -- ---- the program
 
--- the classes are accepted with the main class of the call
-abbrev pub IsFine : Asked → List ClassFile → Type 0
-IsFine asked classes = AreAccepted classes (main_of asked.main classes)
+-- the classes are accepted with the main class of the call, and linked to this
+pub record IsFine (asked : Asked) (classes : List ClassFile) (p : Program) : Type 0 where
+  pub is : p ≡ linked classes (main_of asked.main classes)
+  pub accepted : AreAccepted classes (main_of asked.main classes)
 
 -- they aren't, or memory ran out
 abbrev pub IsUnfit : Asked → List ClassFile → Refusal → Type 0
@@ -123,55 +112,23 @@ IsUnfit asked classes (Flow e) = AreUntyped e classes (main_of asked.main classe
 IsUnfit asked classes NoMemory = Unit {0}
 IsUnfit asked classes _ = ⊥
 
--- there is one file, and it is thin
-pub record IsOneThin (asked : Asked) (bytes : List ℕ) (code : ThinCode) : Type 0 where
-  pub one : length asked.files ≡ 1
-  pub thin : IsThin bytes code
-
--- there isn't, or memory ran out
-abbrev pub IsNotThin : Asked → List ℕ → Refusal → Type 0
-IsNotThin asked bytes NotYet = (code : ThinCode) → ¬ IsOneThin asked bytes code
-IsNotThin asked bytes NoMemory = Unit {0}
-IsNotThin asked bytes _ = ⊥
-
--- the task of the accepted classes: to run the program of the one thin file, or to say that they are
--- accepted
-abbrev pub IsTask : Asked → Loaded → Task → Type 0
-IsTask asked l (Run code) = (asked.command ≡ command.Run) × IsOneThin asked l.bytes.items code
-IsTask asked l (Tell text) =
-    (asked.command ≡ command.Check) × (text.items ≡ accepted_text l.classes)
-
--- they have none, or memory ran out
-abbrev pub HasNoTask : Asked → Loaded → Refusal → Type 0
-HasNoTask asked l NotYet =
-    (asked.command ≡ command.Run) × ((code : ThinCode) → ¬ IsOneThin asked l.bytes.items code)
-HasNoTask asked l NoMemory = Unit {0}
-HasNoTask asked l _ = ⊥
+-- the task of accepted classes: to run their program, or to say that they are accepted
+abbrev pub IsTask : Asked → List ClassFile → Program → Task → Type 0
+IsTask asked classes p (Run q) = (asked.command ≡ command.Run) × (q ≡ p)
+IsTask asked classes p (Tell text) =
+    (asked.command ≡ command.Check) × (text.items ≡ accepted_text classes)
 
 -- the classes are accepted, with this task
-pub record IsSet (asked : Asked) (l : Loaded) (t : Task) : Type 0 where
-  pub fine : IsFine asked l.classes
-  pub task : IsTask asked l t
-
--- the classes are accepted and are to be run, but there isn't one thin file
-pub record IsOther (asked : Asked) (l : Loaded) : Type 0 where
-  pub fine : IsFine asked l.classes
-  pub run : asked.command ≡ command.Run
-  pub other : (code : ThinCode) → ¬ IsOneThin asked l.bytes.items code
-
--- why there is no task
-abbrev pub IsNotSet : Asked → Loaded → Refusal → Type 0
-IsNotSet asked l NotYet = IsOther asked l
-IsNotSet asked l e = IsUnfit asked l.classes e
+abbrev pub IsSet : Asked → List ClassFile → Task → Type 0
+IsSet asked classes t = (p : Program) × IsFine asked classes p × IsTask asked classes p t
 
 -- what is to be done with the files
 abbrev pub IsTaskOf : Task → Asked → List (Option (List ℕ)) → Type 0
-IsTaskOf (Run code) = IsThinProgram code
+IsTaskOf (Run p) = IsProgram p
 IsTaskOf (Tell text) = IsAccepted text.items
 
 -- the files' program is refused
 abbrev pub RefusesProgram : Refusal → Asked → List (Option (List ℕ)) → Type 0
-RefusesProgram NotYet asked contents = IsOtherProgram asked contents
 RefusesProgram (Link e) asked contents = verdicts.AreRefused e asked contents
 RefusesProgram (Flow e) asked contents = verdicts.AreUntyped e asked contents
 RefusesProgram e asked contents = RefusesFiles e contents

@@ -1,47 +1,76 @@
--- A run of a thin program that is going on.
-use Rattle.std.specs.Prelude.{◌≡◌, ℕ, ◌<◌, ◌++◌, List, length, Option, Result, Ok, Err}
+-- A run that is going on.
+use Rattle.std.specs.Prelude.{◌≡◌, ◌⊎◌, ℕ, ◌<◌, ◌++◌, List, [], length, Option, Some, None, Result, Ok, Err}
 use Rattle.std.specs.Io.KnownBytes.{Appends}
-use Rattle.thin_file.specs.declared.thin.ThinCode.{ThinCode}
-use Rattle.thin_machine.specs.Steps.Acts.{steps_of}
-use Rattle.thin_machine.specs.Sound.{IsSound}
-use Rattle.thin_machine.specs.Runs.{LeadsTo}
-use Rattle.one_jvm.specs.declared.running.Broken.{Broken}
-use Rattle.one_jvm.specs.declared.running.Broken.TheVariants.{WriteFault, NoMemory}
-use Rattle.one_jvm.specs.declared.running.Run.{Run}
 use Rattle.cjvm_io.specs.Faults.{Rose}
 use Rattle.cjvm_io.specs.Sinks.{Showing, GainsFront}
+use Rattle.jvm_base.specs.declared.value.Uncaught.{Uncaught}
+use Rattle.machine_state.specs.declared.state.Choice.{Choice}
+use Rattle.machine_state.specs.State.{State}
+use Rattle.program_image.specs.Program.{Program}
+use Rattle.scheduler.specs.declared.run.Stop.{Stop as End}
+use Rattle.scheduler.specs.declared.run.Stop.TheVariants as ends
+use Rattle.scheduler.specs.Running.{IsRun}
+use Rattle.one_jvm.specs.declared.outcome.Stop.{Stop}
+use Rattle.one_jvm.specs.declared.outcome.Stop.TheVariants as stop
+use Rattle.one_jvm.specs.declared.running.Broken.{Broken}
+use Rattle.one_jvm.specs.declared.running.Broken.TheVariants.{WriteFault, NoMemory}
+use Rattle.one_jvm.specs.declared.running.Turns.{Turns}
+use Rattle.one_jvm.specs.Answers.{TellsEnd}
+use Rattle.one_jvm.specs.Outcomes.{ending_text}
+use Rattle.one_jvm.specs.Runs.{step_limit, LeadsTo, IsEnd}
 
--- the order led to the machine
-pub record IsRunOf (code : ThinCode) (run : Run) : Type 0 where
-  pub sound : IsSound code run.machine
-  pub leads : LeadsTo code run.order run.machine
-
--- steps were taken since, and nothing was written since
-pub record IsLater (old new : Run) : Type 0 where
-  pub steps : steps_of old.machine < steps_of new.machine
-  pub printed : List ℕ
-  pub output : new.machine.output ≡ old.machine.output ++ printed
-  pub written : new.written ≡ old.written
+-- the order led to the machine, all of whose output was written
+pub record IsRunOf (p : Program) (turns : Turns) : Type 0 where
+  pub run : IsRun p turns.run
+  pub limit : turns.run.limit ≡ step_limit
+  pub leads : LeadsTo p turns.run.order turns.run.machine.state
+  pub written : turns.written ≡ length turns.run.machine.state.output
 
 -- steps were taken, and all that they printed was written
-pub record Writes (code : ThinCode) (old new : Run) (before now : Option (List ℕ)) : Type 0 where
-  pub run : IsRunOf code new
-  pub steps : steps_of old.machine < steps_of new.machine
+pub record Writes (p : Program) (old new : Turns) (before now : Option (List ℕ)) : Type 0 where
+  pub run : IsRunOf p new
   pub printed : List ℕ
-  pub output : new.machine.output ≡ old.machine.output ++ printed
-  pub written : new.written ≡ length new.machine.output
+  pub output : new.run.machine.state.output ≡ old.run.machine.state.output ++ printed
   pub gained : Appends before now printed
 
+-- the order grew, or the run is at this end
+abbrev pub GoesTo : Program → Turns → Turns → Option Stop → Type 0
+GoesTo p old new None = length old.run.order < length new.run.order
+GoesTo p old new (Some stop) = IsEnd p new.run.machine.state stop
+
 -- steps were taken, and a front of what they printed was written
-pub record Breaks (code : ThinCode) (old new : Run) (before now : Option (List ℕ)) : Type 0 where
-  pub run : IsRunOf code new
+pub record Breaks (p : Program) (old new : Turns) (before now : Option (List ℕ)) : Type 0 where
+  pub last : State
+  pub leads : LeadsTo p new.run.order last
   pub printed : List ℕ
-  pub output : new.machine.output ≡ old.machine.output ++ printed
+  pub output : last.output ≡ old.run.machine.state.output ++ printed
   pub gained : GainsFront before now printed
 
 -- what a turn of the loop leaves
-abbrev pub Turned : ThinCode → Run → Run → Showing → Showing → Result (Unit {0}) Broken → Type 0
-Turned code old new before now (Ok u) = Writes code old new before.held now.held
-Turned code old new before now (Err WriteFault) =
-    Breaks code old new before.held now.held × Rose before.faults now.faults
-Turned code old new before now (Err NoMemory) = now.held ≡ before.held
+abbrev pub Turned : Program → Turns → Turns → Showing → Showing → Result (Option Stop) Broken
+    → Type 0
+Turned p old new before now (Ok o) =
+    Writes p old new before.held now.held × GoesTo p old new o
+Turned p old new before now (Err WriteFault) =
+    Breaks p old new before.held now.held × Rose before.faults now.faults
+Turned p old new before now (Err NoMemory) = Breaks p old new before.held now.held
+
+-- the end of a run in this crate's words
+abbrev pub stop_of : End → Stop
+stop_of ends.Done = stop.Done
+stop_of ends.Uncaught = stop.Uncaught
+stop_of (ends.StepLimit t) = stop.StepLimit t
+stop_of ends.Deadlock = stop.Deadlock
+stop_of (ends.ThreadsFull t) = stop.ThreadsFull t
+
+-- the text of the end, or memory ran out for it
+abbrev pub IsEndTold : Program → List Uncaught → Stop → Stop → List ℕ → Type 0
+IsEndTold p uncaught given result text =
+    ((result ≡ given) × (text ≡ ending_text p given uncaught))
+    ⊎ ((result ≡ stop.NoMemory) × (text ≡ []))
+
+-- what a run that no fault cut off tells, and one that a fault cut off doesn't
+abbrev pub TellsWhole : Program → List Choice → Stop → List ℕ → Type 0
+TellsWhole p order stop.WriteFault text = text ≡ []
+TellsWhole p order stop.NoMemory text = text ≡ []
+TellsWhole p order s text = TellsEnd p order s text

@@ -12,6 +12,3 @@ returns-in-NoFile-clause-bytes g c = rw c.in-NoFile.is c.write_line.ensures.byte
 
 pub returns-in-WriteFault-clause-bytes : goal.returns-in-WriteFault-clause-bytes
 returns-in-WriteFault-clause-bytes g c = rw c.in-WriteFault.is c.write_all-in-WriteFault.ensures.bytes
-
-pub returns-in-NotYet-clause-bytes : goal.returns-in-NotYet-clause-bytes
-returns-in-NotYet-clause-bytes g c = rw c.in-NotYet.is c.write_all-in-NotYet.ensures.bytes

@@ -1,10 +1,10 @@
-use Rattle.std.proofs.Common.{◌+◌, ◌-◌, length}
-use Rattle.thin_machine.specs.Steps.Acts.{steps_of}
+use Rattle.std.proofs.Common.{◌-◌, length}
 use Rattle.one_jvm.proofs.RunLoop.{GoesOn}
 use Rattle.one_jvm.proofs.running.run_program.Given as goal
 
 abbrev pub invariant-turns : goal.invariant-turns
-invariant-turns g l = GoesOn l.code l.run (g.O.Sink.held l.initial.out) (g.O.Sink.held l.out) (g.O.Sink.faults l.initial.out) (g.O.Sink.faults l.out)
+invariant-turns g l = GoesOn l.image l.turns (g.O.Sink.held l.initial.out) (g.O.Sink.held l.out) (g.O.Sink.faults l.initial.out) (g.O.Sink.faults l.out)
 
+-- the order grows towards its limit
 abbrev pub decreases-turns : goal.decreases-turns
-decreases-turns g l = length l.code.ops + 4 - steps_of l.run.machine
+decreases-turns g l = 4294967296 - length l.turns.run.order

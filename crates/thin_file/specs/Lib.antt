@@ -1,4 +1,0 @@
-pub mod Head
-pub mod Opcodes
-pub mod Thin
-pub mod Steps

@@ -1,9 +1,0 @@
-pub mod FirstFile
-pub mod Kept
-pub mod LawProofs
-pub mod Orders
-pub mod Printed
-pub mod Progress
-pub mod Reasons
-pub mod RunLaws
-pub mod Steps

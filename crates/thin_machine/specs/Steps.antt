@@ -1,2 +1,0 @@
--- How the code tells steps apart: these words serve proofs alone.
-pub mod Acts
