@@ -163,6 +163,32 @@ fn runs_the_first_file(rt: HostRuntime) -> Result<(), Fail> {
 }
 
 #[test]
+fn tells_what_nothing_caught(rt: HostRuntime) -> Result<(), Fail> {
+    let alloc = rt.alloc();
+    // iconst_0 and idiv in place of iconst_3 and iadd
+    let divides = b"\x00\x00\x00\x16\x00\x03\x00\x01\x00\x00\x00\x0a\xb2\x00\x0d\x05\x03l\xb6\
+    \x00\x13\xb1\x00\x00\x00\x00\x00\x00";
+    let rows: [(u64, u8, &[u8]); 2] = [
+        (0, 1, b"uncaught 0 java/lang/ArithmeticException\n"),
+        (3, 6, b"uncaught 0"),
+    ];
+    for (err, status, report) in rows {
+        let fails = Fails {
+            shelf: 0,
+            out: 0,
+            err,
+        };
+        let file = file_of(alloc, divides.as_slice())?;
+        let left = call(alloc, &["run", "A.class"], file, fails)?;
+        assert_eq!(rt; left.outcome.status, status);
+        assert_eq!(rt; left.outcome.stop, Some(Stop::Uncaught));
+        assert_eq!(rt; left.out.len(), 0);
+        assert_eq!(rt; left.err.as_slice(), report);
+    }
+    Ok(())
+}
+
+#[test]
 fn refuses_long_files(rt: HostRuntime) -> Result<(), Fail> {
     let alloc = rt.alloc();
     let rows: [(usize, u8, &[u8]); 2] = [

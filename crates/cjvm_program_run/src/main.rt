@@ -1,0 +1,11 @@
+//! The program `cjvm` again, for a stored run of javac's files, with the version 46: recursion, arrays,
+//! objects, texts, two threads and a lock, an exception that is caught and one that isn't. `java` writes
+//! the same.
+#![tactic(auto)]
+
+use one_jvm::run_process;
+use std::process::ExitCode;
+
+fn main(rt: HostRuntime) -> ExitCode {
+    run_process(&rt)
+}
