@@ -1,5 +1,5 @@
 -- A step that was found, and is done.
-use Rattle.std.proofs.Common.{◌≡◌, ℕ, true, false, List, Option, Some, None, refl, sym, ap, subst, ◌∙◌}
+use Rattle.std.proofs.Common.{◌≡◌, ℕ, Bool, true, false, ◌&&◌, List, Option, Some, None, refl, sym, ap, subst, ◌∙◌}
 use Rattle.jvm_base.specs.declared.memory.NoMemory.{NoMemory}
 use Rattle.std.specs.Prelude.{Result, Ok, Err, IfOk, OnErr, filter, length, map, reverse, slice_get}
 use Rattle.jvm_base.specs.declared.frame.Level.{Level}
@@ -12,6 +12,7 @@ use Rattle.machine_state.specs.declared.state.Reason.{Reason}
 use Rattle.machine_state.specs.declared.state.Reason.TheVariants.{NoThread, Over, Blocked, BadPick, BadName}
 use Rattle.machine_state.specs.Reasons.{reason}
 use Rattle.machine_state.specs.declared.state.ThreadState.{ThreadState}
+use Rattle.machine_state.specs.Changes.{Change}
 use Rattle.machine_state.specs.Serving.{changes_of, effect_list}
 use Rattle.machine_state.specs.State.{State}
 use Rattle.machine_state.specs.Step.{moved_on, step}
@@ -27,22 +28,23 @@ use Rattle.step_attempt.specs.declared.going.Going.{Going}
 use Rattle.step_soundness.proofs.StepLaws.{sound-step}
 use Rattle.one_machine.specs.Doing.{IsNextState, is_made}
 use Rattle.one_machine.specs.Found.{FoundStep}
-use Rattle.one_machine.specs.Going.{IsFull, IsRefused, IsStep, IsWent}
+use Rattle.one_machine.specs.Going.{IsFull, IsRefused, IsStep, IsWent, StayFew, is_full}
 use Rattle.one_machine.specs.Ready.{Machine, IsReady}
 use Rattle.one_machine.specs.declared.taking.Went.{Went}
 use Rattle.one_machine.specs.declared.taking.Went.TheVariants as went
 use Rattle.one_machine.specs.declared.taking.Took.{Took}
 use Rattle.one_machine.proofs.Doing.{get_state}
-use Rattle.one_machine.proofs.Wishes.{is_allowed, is_step}
+use Rattle.one_machine.proofs.Counting.{stay_few}
+use Rattle.one_machine.proofs.Wishes.{is_allowed, is_step, starts}
 
 -- its changes can be done together
-pub orderly_found : (p : Program) (m : State) (w : Wish) (g : Going) → FoundStep p m w g → IsOrderly m.heap (changes_of m.heap g.served.effects)
-orderly_found p m w g f = f.told.orderly f.name
+pub orderly_found : (p : Program) (m : State) (w : Wish) (most : Option ℕ) (g : Going) → FoundStep p m w most g → IsOrderly m.heap (changes_of m.heap g.served.effects)
+orderly_found p m w most g f = f.told.orderly f.name
 
 -- its thread can go on
-pub can_go : (p : Program) (shared : Parts) (ts : List Thread) (w : Wish) (g : Going) (types : Types) → Accepted p types → Sound p types (state_of shared ts)
-    → FoundStep p (state_of shared ts) w g → (t : ℕ) → t ≡ wish_thread w → (th : Thread) → slice_get ts t ≡ Some th → CanGoOn p g.after g.served.answer (reverse th.levels.items)
-can_go p shared ts w g types a sound f t is th e =
+pub can_go : (p : Program) (shared : Parts) (ts : List Thread) (w : Wish) (most : Option ℕ) (g : Going) (types : Types) → Accepted p types → Sound p types (state_of shared ts)
+    → FoundStep p (state_of shared ts) w most g → (t : ℕ) → t ≡ wish_thread w → (th : Thread) → slice_get ts t ≡ Some th → CanGoOn p g.after g.served.answer (reverse th.levels.items)
+can_go p shared ts w most g types a sound f t is th e =
     let m = state_of shared ts in
     let mine : slice_get m.threads t ≡ Some (thread_state th) = get_state ts t th e in
     let both : Some (thread_state th) ≡ Some f.thread = sym mine ∙ ap (slice_get m.threads) is ∙ f.is_thread in
@@ -52,10 +54,17 @@ can_go p shared ts w g types a sound f t is th e =
     subst (λ (x : Answer). CanGoOn p g.after x (reverse th.levels.items)) (sym f.told.served.answer) (subst (λ (x : ThreadState). CanGoOn p g.after f.taken.deed.answer x.levels) (sym one) go)
 
 -- it was taken
-pub went_on : (p : Program) (m : State) (w : Wish) (g : Going) → FoundStep p m w g → (made : ℕ) (next : State) → made ≡ length (filter is_made (effect_list g.served.effects)) → (t : ℕ) → t ≡ wish_thread w → IsNextState p m t g next → IsStep p m w (record { choice = g.served.choice; made = made }) next
-went_on p m w g f made next count t is to =
-    is_step p m w f.thread f.is_thread f.goes g f.taken f.is_taken f.told made next f.pick f.name count
-    (to f.thread f.taken (ap (slice_get m.threads) is ∙ f.is_thread) (f.told.served.changes f.name) (f.told.stand ∙ ap (λ (x : Answer). stand_of p g.after x f.thread.mode f.thread.levels) (sym f.told.served.answer)) ∙ ap (λ (u : ℕ). moved_on m u f.thread f.taken) is)
+pub went_on : (p : Program) (m : State) (w : Wish) (most : Option ℕ) (g : Going) → FoundStep p m w most g → (made : ℕ) (next : State) → made ≡ length (filter is_made (effect_list g.served.effects)) → (t : ℕ) → t ≡ wish_thread w → IsNextState p m t g next
+    → IsWent p m w most (went.Steps (record { choice = g.served.choice; made = made })) next
+went_on p m w most g f made next count t is to =
+    let at : slice_get m.threads t ≡ Some f.thread = ap (slice_get m.threads) is ∙ f.is_thread in
+    let stand = f.told.stand ∙ ap (λ (x : Answer). stand_of p g.after x f.thread.mode f.thread.levels) (sym f.told.served.answer) in
+    let moved : next ≡ moved_on m t f.thread f.taken = to f.thread f.taken at (f.told.served.changes f.name) stand in
+    let orderly = subst (λ (cs : List Change). IsOrderly m.heap cs) (f.told.served.changes f.name) (f.told.orderly f.name) in
+    let few = ap (λ (b : Bool). is_full (length m.threads) most && b) (starts p m w f.thread f.is_thread f.goes g f.taken f.is_taken f.told f.name) ∙ f.few in (
+      is_step p m w f.thread f.is_thread f.goes g f.taken f.is_taken f.told made next f.pick f.name count (moved ∙ ap (λ (u : ℕ). moved_on m u f.thread f.taken) is),
+      subst (λ (x : State). StayFew most m x) (sym moved) (stay_few most m t f.thread f.taken orderly few),
+    )
 
 -- the machine stays sound
 pub sound_after : (p : Program) (types : Types) → Accepted p types → (m : State) (w : Wish) (k : Took) (next : State) → Sound p types m → IsStep p m w k next → Sound p types next
@@ -75,7 +84,7 @@ ready_after p m w most r next ready came same = record {
     at_same e = subst (λ (x : State). Sound p ready.types x) (sym e) ready.sound
 
     by_result : (r : Result Went NoMemory) → IfOk r (λ x. IsWent p m.state w most x next) → OnErr r (next ≡ m.state) → Sound p ready.types next
-    by_result (Ok (went.Steps t)) h e = sound_after p ready.types ready.accepted m.state w t next ready.sound h
+    by_result (Ok (went.Steps t)) h e = sound_after p ready.types ready.accepted m.state w t next ready.sound h.0
     by_result (Ok (went.Refused why)) h e = at_same h.1
     by_result (Ok went.Full) h e = at_same h.1
     by_result (Err x) h e = at_same e

@@ -1,5 +1,5 @@
 -- What comes of a wish for a step.
-use Rattle.std.proofs.Common.{◌≡◌, ℕ, suc, Bool, true, false, ◌&&◌, List, [], ◌∷◌, ◌++◌, length, Option, Some, None, refl, sym, ap, subst, ◌∙◌}
+use Rattle.std.proofs.Common.{◌≡◌, ℕ, suc, Bool, true, false, ◌&&◌, ◌||◌, List, [], ◌∷◌, ◌++◌, length, Option, Some, None, refl, sym, ap, subst, ◌∙◌}
 use Rattle.std.specs.Prelude.{Result, Ok, Err, not, if◌then◌else◌, slice_get, filter, map, nat_le}
 use Rattle.std.specs.List.{list_any}
 use Rattle.program_image.specs.Program.{Program}
@@ -7,7 +7,6 @@ use Rattle.machine_state.specs.declared.request.Answer.{Answer}
 use Rattle.machine_state.specs.declared.served.Effect.{Effect}
 use Rattle.machine_state.specs.declared.served.Effect.TheVariants as effect
 use Rattle.machine_state.specs.declared.served.Effects.{Effects}
-use Rattle.machine_state.specs.declared.served.Effects.TheVariants.{Nothing, One, Two, Many}
 use Rattle.machine_state.specs.declared.served.Wish.{Wish}
 use Rattle.machine_state.specs.declared.state.Choice.{Choice}
 use Rattle.machine_state.specs.declared.state.Mode.{Mode}
@@ -27,7 +26,7 @@ use Rattle.step_attempt.specs.Going.{IsAttempt, IsGoing}
 use Rattle.step_attempt.specs.declared.going.Going.{Going}
 use Rattle.one_machine.specs.Doing.{is_made}
 use Rattle.one_machine.specs.Found.{IsFound}
-use Rattle.one_machine.specs.Going.{SomeRefused, AllRefused, IsFull, IsStep, is_start, starts_one, is_full, is_making, judged}
+use Rattle.one_machine.specs.Going.{SomeRefused, AllRefused, IsFull, IsStep, is_start, is_started, starts_one, is_full, is_making, judged}
 use Rattle.one_machine.specs.declared.taking.Took.{Took}
 use Rattle.one_machine.specs.declared.taking.Went.TheVariants as went
 
@@ -89,9 +88,16 @@ module _ (p : Program) (m : State) (w : Wish) (th : ThreadState) (at : slice_get
     }
 
     -- it starts a thread
-    starts : (es : Effects) → starts_one es ≡ true → list_any is_start (changes_of m.heap es) ≡ true
-    starts (One (effect.Started n)) h = refl
-    starts _ h = absurd cc
+    starts_alike : (h : Heap) (e : Effect) → is_start (change_of h e) ≡ is_started e
+    starts_alike h (effect.Started n) = refl
+    starts_alike h _ = refl
+
+    starts_among : (h : Heap) (es : List Effect) → list_any is_start (map (change_of h) es) ≡ list_any is_started es
+    starts_among h [] = refl
+    starts_among h (e ∷ es) = ap (λ b. b || list_any is_start (map (change_of h) es)) (starts_alike h e) ∙ ap (λ b. is_started e || b) (starts_among h es)
+
+    pub starts : g.served.name_fits ≡ true → list_any is_start k.deed.changes ≡ starts_one g.served.effects
+    starts fine = ap (list_any is_start) (sym (told.served.changes fine)) ∙ starts_among m.heap (effect_list g.served.effects)
 
     pub full : (most : Option ℕ) → g.served.name_fits ≡ true → is_full (length m.threads) most ≡ true → starts_one g.served.effects ≡ true → IsFull p m w most
     full most fine many one = record {
@@ -102,7 +108,7 @@ module _ (p : Program) (m : State) (w : Wish) (th : ThreadState) (at : slice_get
       of_thread = told.thread;
       is_thread = here;
       is_taken = can;
-      starts = ap (list_any is_start) (sym (told.served.changes fine)) ∙ starts g.served.effects one;
+      starts = starts fine ∙ one;
     }
 
     -- of both, each
@@ -160,7 +166,7 @@ module _ (p : Program) (m : State) (w : Wish) (th : ThreadState) (at : slice_get
   by_judge g k can told false name full x y z = (bad_pick p m w th at goes g k can told x, refl)
   by_judge g k can told true false full x y z = (bad_name p m w th at goes g k can told x y, refl)
   by_judge g k can told true true true x y z = (full_one p m w th at goes g k can told most y z, refl)
-  by_judge g k can told true true false x y z = record { thread = th; taken = k; is_thread = at; goes = goes; is_taken = can; told = told; pick = x; name = y }
+  by_judge g k can told true true false x y z = record { thread = th; taken = k; is_thread = at; goes = goes; is_taken = can; told = told; pick = x; name = y; few = z }
 
   pub found : (g : Going) → IsAttempt p m w th (Some g) → IsFound p m w most (judged g (length m.threads) most)
   found g (k, can, told) = by_judge g k can told g.served.pick_fits g.served.name_fits (is_full (length m.threads) most && starts_one g.served.effects) refl refl refl

@@ -5,7 +5,6 @@ use Rattle.program_image.specs.Program.{Program}
 use Rattle.machine_state.specs.declared.served.Effect.{Effect}
 use Rattle.machine_state.specs.declared.served.Effect.TheVariants as effect
 use Rattle.machine_state.specs.declared.served.Effects.{Effects}
-use Rattle.machine_state.specs.declared.served.Effects.TheVariants.{One}
 use Rattle.machine_state.specs.declared.served.Wish.{Wish}
 use Rattle.machine_state.specs.declared.served.Wish.TheVariants as wish
 use Rattle.machine_state.specs.declared.state.Choice.{Choice}
@@ -14,7 +13,7 @@ use Rattle.machine_state.specs.declared.state.Reason.TheVariants.{NoThread, Over
 use Rattle.machine_state.specs.declared.state.ThreadState.{ThreadState}
 use Rattle.machine_state.specs.Changes.{Change, Made, Started}
 use Rattle.machine_state.specs.Reasons.{reason}
-use Rattle.machine_state.specs.Serving.{Meets}
+use Rattle.machine_state.specs.Serving.{Meets, effect_list}
 use Rattle.machine_state.specs.State.{State}
 use Rattle.machine_state.specs.Step.{Taken, attempt, step}
 use Rattle.step_serve.specs.Cells.{wish_thread}
@@ -55,10 +54,14 @@ abbrev pub is_start : Change → Bool
 is_start (Started n) = true
 is_start _ = false
 
--- so does what is told of a step
+-- so does an effect
+abbrev pub is_started : Effect → Bool
+is_started (effect.Started n) = true
+is_started _ = false
+
+-- one of them does
 abbrev pub starts_one : Effects → Bool
-starts_one (One (effect.Started n)) = true
-starts_one es = false
+starts_one es = list_any is_started (effect_list es)
 
 -- so many threads there may be, and there are as many
 abbrev pub is_full : ℕ → Option ℕ → Bool
@@ -94,9 +97,14 @@ pub record IsStep (p : Program) (m : State) (w : Wish) (t : Took) (next : State)
   pub made : t.made ≡ length (filter is_making taken.deed.changes)
   pub steps : step p m t.choice ≡ Some next
 
+-- where there may be so many threads and there are no more, there are no more afterwards
+abbrev pub StayFew : Option ℕ → State → State → Type 0
+StayFew None m next = Unit {0}
+StayFew (Some most) m next = length m.threads ≤ most → length next.threads ≤ most
+
 -- what came of it: a step, after which the state is this; or nothing, and the state is the old one
 abbrev pub IsWent : Program → State → Wish → Option ℕ → Went → State → Type 0
-IsWent p m w most (went.Steps t) next = IsStep p m w t next
+IsWent p m w most (went.Steps t) next = IsStep p m w t next × StayFew most m next
 IsWent p m w most (went.Refused r) next = IsRefused p m w r × (next ≡ m)
 IsWent p m w most went.Full next = IsFull p m w most × (next ≡ m)
 

@@ -1,11 +1,12 @@
 //! What comes of a wish for a step.
 
 ghost use Rattle.std.specs.Prelude.{◌≡◌, map, option_map, slice_get, IfOk, OnErr};
+ghost use Rattle.std.specs.List.{list_any};
 ghost use Rattle.std.specs.Option.{option_copied};
 ghost use Rattle.shared_state.specs.Parts.{state_of, thread_state};
 ghost use Rattle.step_attempt.specs.Going.{state_at};
 ghost use Rattle.one_machine.specs.Found.{IsFound};
-ghost use Rattle.one_machine.specs.Going.{IsWent, is_full, judged, starts_one};
+ghost use Rattle.one_machine.specs.Going.{IsWent, is_full, is_started, judged, starts_one};
 ghost use Rattle.one_machine.specs.Ready.{IsReady, machine_at};
 
 use crate::perform::{made, perform};
@@ -34,11 +35,35 @@ pub enum Went {
     Full,
 }
 
+/// Whether the effect starts a thread.
+fn is_started(effect: &Effect) -> bool
+    ensures { result ≡ is_started effect.now }
+{
+    matches!(effect, Effect::Started(_))
+}
+
+/// Whether one of these effects starts a thread.
+fn is_any_started(effects: &[Effect]) -> bool
+    ensures { result ≡ list_any is_started effects.now }
+{
+    for effect in effects {
+        if is_started(effect) {
+            return true;
+        }
+    }
+    false
+}
+
 /// Whether a thread is started.
 fn starts_one(effects: &Effects) -> bool
     ensures { result ≡ starts_one effects.now }
 {
-    matches!(effects, Effects::One(Effect::Started(_)))
+    match effects {
+        Effects::Nothing => false,
+        Effects::One(effect) => is_started(effect),
+        Effects::Two(first, second) => is_started(first) || is_started(second),
+        Effects::Many(effects) => is_any_started(effects.as_slice()),
+    }
 }
 
 /// Whether there are so many threads that none may be started.

@@ -16,7 +16,7 @@ use Rattle.machine_state.proofs.NameTests.{some_is}
 use Rattle.one_machine.specs.declared.taking.Took.{Took}
 use Rattle.one_machine.specs.Going as going
 use Rattle.one_machine.specs.Ready.{IsReady}
-use Rattle.scheduler.specs.Running.{Run, IsRun, IsTurn, LeadsOn, AreWithin, at_limit}
+use Rattle.scheduler.specs.Running.{Run, IsRun, IsTurn, LeadsOn, AreWithin, at_limit, max_threads}
 use Rattle.scheduler.specs.Progress.{IsPassed, IsProgress}
 use Rattle.scheduler.specs.declared.run.Progress.TheVariants.{Stepped, Passed, Stops}
 use Rattle.scheduler.specs.declared.run.Stop.{Stop}
@@ -53,6 +53,7 @@ unfolding start
 start_run p args a e ready = record {
   ready = ready;
   within = subst (λ (m : State). AreWithin a.limit m) (sym e) (λ t th h. by_place t th h);
+  few = subst (λ (m : State). length m.threads ≤ max_threads) (sym e) (omega arith);
 }
   where
     by_place : (t : ℕ) (th : ThreadState)
@@ -67,8 +68,9 @@ start_run p args a e ready = record {
 pub step_run : (p : Program) (a b : Run) (m l : State) (t index : ℕ) (took : Took)
     → a.machine.state ≡ m → b.machine.state ≡ l → b.limit ≡ a.limit
     → IsRun p a → at_limit a.limit (slice_get a.machine.state.threads t) ≡ false
-    → going.IsStep p m (Fresh t 0 index) took l → IsReady p b.machine → IsRun p b
-step_run p a b m l t index took from to same run unspent s ready = record {
+    → going.IsStep p m (Fresh t 0 index) took l → going.StayFew (Some max_threads) m l
+    → IsReady p b.machine → IsRun p b
+step_run p a b m l t index took from to same run unspent s stay ready = record {
   ready = ready;
   within = subst (λ (n : State). AreWithin b.limit n) (sym to)
       (subst (λ (n : ℕ). AreWithin n l) (sym same)
@@ -76,6 +78,8 @@ step_run p a b m l t index took from to same run unspent s ready = record {
       (ap (λ (u : ℕ). at_limit a.limit (slice_get m.threads u)) s.of_thread
       ∙ (ap (λ (n : State). at_limit a.limit (slice_get n.threads t)) (sym from) ∙ unspent))
       (subst (λ (n : State). AreWithin a.limit n) from run.within)));
+  few = subst (λ (n : State). length n.threads ≤ max_threads) (sym to)
+      (stay (subst (λ (n : State). length n.threads ≤ max_threads) from run.few));
 }
 
 -- it leads on
@@ -101,6 +105,7 @@ same_run p a b m from to same run ready = record {
   ready = ready;
   within = subst (λ (n : ℕ). AreWithin n b.machine.state) (sym same)
       (subst (λ (n : State). AreWithin a.limit n) (from ∙ sym to) run.within);
+  few = subst (λ (n : State). length n.threads ≤ max_threads) (from ∙ sym to) run.few;
 }
 
 -- the thread is passed over

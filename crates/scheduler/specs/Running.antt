@@ -23,10 +23,15 @@ pub record Run : Type 0 where
 abbrev pub AreWithin : ℕ → State → Type 0
 AreWithin limit m = (t : ℕ) (th : ThreadState) → slice_get m.threads t ≡ Some th → th.steps ≤ limit
 
+-- so many threads there may be
+abbrev pub max_threads : ℕ
+max_threads = 64
+
 -- a run that can go on
 pub record IsRun (p : Program) (r : Run) : Type 0 where
   pub ready : IsReady p r.machine
   pub within : AreWithin r.limit r.machine.state
+  pub few : length r.machine.state.threads ≤ max_threads
 
 -- further steps lead from one state to another
 pub record LeadsOn (p : Program) (from : State) (before after : List Choice) (to : State) : Type 0
@@ -48,10 +53,6 @@ at_limit limit (Some th) = not (is_ended th.mode) && nat_le limit th.steps
 -- the one of this number
 abbrev pub IsAtLimit : ℕ → State → ℕ → Type 0
 IsAtLimit limit m t = at_limit limit (slice_get m.threads t) ≡ true
-
--- so many threads there may be
-abbrev pub max_threads : ℕ
-max_threads = 64
 
 -- a thread's next step would start one thread more than there may be
 pub record IsFull (p : Program) (m : State) (t : ℕ) : Type 0 where

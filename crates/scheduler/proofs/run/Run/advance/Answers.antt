@@ -27,7 +27,7 @@ returns-in_ok-keep-in-Steps-clause-progress c =
     (sym (ap (λ (a : Run). a.machine.state) c.self.view_is))
     (ap (λ (m : Machine). m.state) c.keep.ensures.machine)
     (c.in_ok-keep-in-Steps.ensures.ok
-    ∙ ap (λ (a : Run). a.order ++ took.choice ∷ []) c.self.view_is) went
+    ∙ ap (λ (a : Run). a.order ++ took.choice ∷ []) c.self.view_is) went.0
 
 pub returns-in_ok-keep-in-Steps-clause-run : goal.returns-in_ok-keep-in-Steps-clause-run
 returns-in_ok-keep-in-Steps-clause-run c =
@@ -37,7 +37,7 @@ returns-in_ok-keep-in-Steps-clause-run c =
     (sym (ap (λ (a : Run). a.machine.state) c.self.view_is))
     (ap (λ (m : Machine). m.state) c.keep.ensures.machine)
     (c.keep.ensures.limit ∙ ap (λ (a : Run). a.limit) c.self.view_is) c.requires.run
-    c.requires.unspent went
+    c.requires.unspent went.0 went.1
     (subst (λ (m : Machine). IsReady c.args.image.now m)
     (sym c.keep.ensures.machine) c.advance.ensures.ready)
 
