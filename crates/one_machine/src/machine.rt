@@ -118,7 +118,8 @@ impl Machine {
         most: Option<u32>,
     ) -> Result<Went, NoMemory>
         requires { IsReady image.now self.old }
-        ensures went { IfOk result (λ went. IsWent image.now self.old.state wish most went self.new.state) }
+        ensures went { IfOk result
+            (λ went. IsWent image.now self.old.state wish most went self.new.state) }
         ensures err { OnErr result (self.new ≡ self.old) }
         ensures ready { IsReady image.now self.new }
         ensures tables { self.new.tables ≡ self.old.tables }
@@ -254,7 +255,8 @@ impl Machine {
     /// Whether the thread of a number has ended, and how many steps it took; `None` exactly where there is
     /// none.
     pub fn thread(&self, thread: usize) -> Option<(bool, u64)>
-        ensures { result ≡ option_map (λ th. (is_ended th.mode, th.steps)) (slice_get self.now.state.threads thread) }
+        ensures { result ≡ option_map (λ th. (is_ended th.mode, th.steps))
+            (slice_get self.now.state.threads thread) }
     {
         let it = self.threads.get(thread)?;
         Some((matches!(it.mode, Mode::Ended), it.steps))

@@ -97,7 +97,8 @@ fn change(
     ensures ok { OnOk result (state_of shared.new threads.new.items
         ≡ changed (changes_of shared.old.heap effects) (state_of shared.old threads.old.items)) }
     ensures ready { IfOk result (λ steps. IsPrepared at steps threads.old.items threads.new.items) }
-    ensures err { OnErr result (state_of shared.new threads.new.items ≡ state_of shared.old threads.old.items) }
+    ensures err { OnErr result (state_of shared.new threads.new.items
+        ≡ state_of shared.old threads.old.items) }
 {
     let Ok(steps) = make_ready(&mut threads[at]) else {
         return give_up(effects);
@@ -122,7 +123,8 @@ pub(crate) fn perform(
     requires orderly { IsOrderly shared.old.heap (changes_of shared.old.heap going.served.effects) }
     ensures ok { OnOk result (IsNextState image.now (state_of shared.old threads.old.items) at going
         (state_of shared.new threads.new.items)) }
-    ensures err { OnErr result (state_of shared.new threads.new.items ≡ state_of shared.old threads.old.items) }
+    ensures err { OnErr result (state_of shared.new threads.new.items
+        ≡ state_of shared.old threads.old.items) }
 {
     let Going { served, after } = going;
     let answer = served.answer;

@@ -94,7 +94,8 @@ fn judge(going: Going, threads: usize, most: Option<u32>) -> Result<Going, Went>
 
 /// The thread at a place.
 pub(crate) fn thread_at(threads: &[Thread], at: usize) -> Option<&Thread>
-    ensures { option_map thread_state (option_copied result) ≡ slice_get (map thread_state threads.now) at }
+    ensures { option_map thread_state (option_copied result)
+        ≡ slice_get (map thread_state threads.now) at }
 {
     threads.get(at)
 }
@@ -129,10 +130,16 @@ pub(crate) fn take(
     most: Option<u32>,
 ) -> Result<Went, NoMemory>
     requires ready { IsReady image.now
-        (record { state = state_of shared.old threads.old.items; tables = tables.now; blanks = blanks.now }) }
-    ensures went { IfOk result (λ went. IsWent image.now (state_of shared.old threads.old.items) wish most went
+        (record {
+          state = state_of shared.old threads.old.items;
+          tables = tables.now;
+          blanks = blanks.now;
+        }) }
+    ensures went { IfOk result (λ went. IsWent image.now
+        (state_of shared.old threads.old.items) wish most went
         (state_of shared.new threads.new.items)) }
-    ensures err { OnErr result (state_of shared.new threads.new.items ≡ state_of shared.old threads.old.items) }
+    ensures err { OnErr result (state_of shared.new threads.new.items
+        ≡ state_of shared.old threads.old.items) }
 {
     let site = Site {
         image,

@@ -1,14 +1,21 @@
 -- What is told of a step is right.
-use Rattle.std.specs.Prelude.{◌≡◌, true, Option, Some, None}
+use Rattle.std.specs.Prelude.{◌≡◌, true, reverse, Option, Some, None}
+use Rattle.jvm_base.specs.declared.frame.Frame.{Frame}
 use Rattle.program_image.specs.Program.{Program}
 use Rattle.machine_state.specs.declared.served.Wish.{Wish}
 use Rattle.machine_state.specs.declared.state.Choice.{Choice}
 use Rattle.machine_state.specs.declared.state.ThreadState.{ThreadState}
 use Rattle.machine_state.specs.Serving.{IsServed, changes_of}
 use Rattle.machine_state.specs.State.{State}
-use Rattle.machine_state.specs.Step.{Taken, attempt}
+use Rattle.machine_state.specs.Next.{Next, Needs}
+use Rattle.machine_state.specs.Step.{Taken, attempt, performed, served}
+use Rattle.machine_state.specs.declared.request.Request.{Request}
 use Rattle.shared_state.specs.Orderly.{IsOrderly}
-use Rattle.shared_state.specs.Parts.{state_of}
+use Rattle.shared_state.specs.Parts.{state_of, thread_state}
+use Rattle.shared_state.specs.declared.thread.Thread.{Thread}
+use Rattle.step_after.specs.Conditions.{LevelsAsk}
+use Rattle.step_plan.specs.Shown.{shown_next, top_frame}
+use Rattle.step_plan.specs.declared.plan.Next.{Next as Told}
 use Rattle.step_after.specs.Going.{stand_of}
 use Rattle.step_after.specs.Laws.{GoesSo}
 use Rattle.step_serve.specs.Cells.{wish_thread}
@@ -38,3 +45,30 @@ IsTold p m w th f (Some g) = (k : Taken) × (f g.served.choice ≡ Some k) × Is
 -- of its next step
 abbrev pub IsAttempt : Program → State → Wish → ThreadState → Option Going → Type 0
 IsAttempt p m w th o = IsTold p m w th (λ c. attempt p m c th) o
+
+-- ---- at a site, of a thread
+
+-- what is told there is right
+abbrev pub IsToldAt : Site → Thread → (Choice → Option Taken) → Option Going → Type 0
+IsToldAt s th f o = IsTold s.image.now (state_at s) s.wish (thread_state th) f o
+
+-- a request is served, by choice
+abbrev pub serves_at : Site → Thread → Request → Choice → Option Taken
+serves_at s th r c = served s.image.now (state_at s) c th.mode (reverse th.levels.items) r
+
+-- what comes next is done
+abbrev pub performs_at : Site → Thread → Next → Choice → Option Taken
+performs_at s th next c = performed s.image.now (state_at s) c th.mode (reverse th.levels.items) next
+
+-- the top frame of the thread
+abbrev pub top_of : Thread → Option Frame
+top_of th = top_frame (reverse th.levels.items)
+
+-- what the code tells of what comes next
+abbrev pub next_at : Site → Thread → Told → Next
+next_at s th t = shown_next s.image.now (top_of th) t
+
+-- what is asked next can be answered where it is asked
+abbrev pub CanAskAt : Site → Thread → Told → Type 0
+CanAskAt s th t =
+    (r : Request) → next_at s th t ≡ Needs r → LevelsAsk s.image.now r (reverse th.levels.items)

@@ -1,18 +1,15 @@
 //! A thread's next step, by its mode.
 
 ghost use Rattle.std.specs.Prelude.{◌≡◌, [], reverse, slice_get, IfOk};
-ghost use Rattle.machine_state.specs.declared.request.Request.{Request as Asking};
 ghost use Rattle.machine_state.specs.declared.state.Mode.TheVariants.{Entry};
-ghost use Rattle.machine_state.specs.Next.{Needs};
 ghost use Rattle.machine_state.specs.Step.{asked, awake, planned, retaken};
 ghost use Rattle.program_reads.specs.Kept.{IsKept};
 ghost use Rattle.shared_state.specs.Parts.{thread_state};
-ghost use Rattle.step_after.specs.Conditions.{LevelsAsk};
 ghost use Rattle.step_plan.specs.Condition.{CanPlan};
-ghost use Rattle.step_plan.specs.Shown.{shown, shown_next, top_frame};
+ghost use Rattle.step_plan.specs.Shown.{shown};
 ghost use Rattle.step_plan.specs.Ways.{GoesBy};
 ghost use Rattle.step_serve.specs.Blank.{AreBlanks};
-ghost use Rattle.step_attempt.specs.Going.{IsAttempt, IsTold, state_at};
+ghost use Rattle.step_attempt.specs.Going.{IsAttempt, IsToldAt, CanAskAt, next_at, state_at, top_of};
 
 use crate::going::{Going, going_on};
 use crate::perform::{ask, perform};
@@ -37,13 +34,11 @@ fn after_class(
     next: Next,
 ) -> Result<Option<Going>, NoMemory>
     requires blanks { AreBlanks site.now.image.now site.now.blanks.now }
-    requires goes { GoesBy site.now.image.now (top_frame (reverse thread.now.levels.items)) next }
-    requires asks { (r : Asking) →
-        shown_next site.now.image.now (top_frame (reverse thread.now.levels.items)) next ≡ Needs r →
-        LevelsAsk site.now.image.now r (reverse thread.now.levels.items) }
-    ensures { IfOk result (IsTold site.now.image.now (state_at site.now) site.now.wish (thread_state thread.now)
-        (λ c. asked site.now.image.now (state_at site.now) c thread.now.mode (reverse thread.now.levels.items)
-        (shown_next site.now.image.now (top_frame (reverse thread.now.levels.items)) next) class
+    requires goes { GoesBy site.now.image.now (top_of thread.now) next }
+    requires asks { CanAskAt site.now thread.now next }
+    ensures { IfOk result (IsToldAt site.now thread.now
+        (λ c. asked site.now.image.now (state_at site.now) c thread.now.mode
+        (reverse thread.now.levels.items) (next_at site.now thread.now next) class
         (slice_get (state_at site.now).classes class))) }
 {
     match site.shared.class(class) {
@@ -69,13 +64,11 @@ fn follow(
     plan: Plan,
 ) -> Result<Option<Going>, NoMemory>
     requires blanks { AreBlanks site.now.image.now site.now.blanks.now }
-    requires goes { GoesBy site.now.image.now (top_frame (reverse thread.now.levels.items)) plan.next }
-    requires asks { (r : Asking) →
-        shown_next site.now.image.now (top_frame (reverse thread.now.levels.items)) plan.next ≡ Needs r →
-        LevelsAsk site.now.image.now r (reverse thread.now.levels.items) }
-    ensures { IfOk result (IsTold site.now.image.now (state_at site.now) site.now.wish (thread_state thread.now)
-        (λ c. planned site.now.image.now (state_at site.now) c thread.now.mode (reverse thread.now.levels.items)
-        (shown site.now.image.now (top_frame (reverse thread.now.levels.items)) plan))) }
+    requires goes { GoesBy site.now.image.now (top_of thread.now) plan.next }
+    requires asks { CanAskAt site.now thread.now plan.next }
+    ensures { IfOk result (IsToldAt site.now thread.now
+        (λ c. planned site.now.image.now (state_at site.now) c thread.now.mode
+        (reverse thread.now.levels.items) (shown site.now.image.now (top_of thread.now) plan))) }
 {
     match plan.asks {
         None => perform(alloc, site, thread, plan.next),
@@ -89,7 +82,7 @@ fn awake(alloc: Global, site: &Site<'_>, thread: &Thread) -> Result<Option<Going
     requires blanks { AreBlanks site.now.image.now site.now.blanks.now }
     requires can { CanPlan site.now.image.now (reverse thread.now.levels.items) }
     requires entry { thread.now.mode ≡ Entry → reverse thread.now.levels.items ≡ [] }
-    ensures { IfOk result (IsTold site.now.image.now (state_at site.now) site.now.wish (thread_state thread.now)
+    ensures { IfOk result (IsToldAt site.now thread.now
         (λ c. awake site.now.image.now (state_at site.now) c (thread_state thread.now))) }
 {
     let known = Known {
@@ -114,7 +107,7 @@ fn awake(alloc: Global, site: &Site<'_>, thread: &Thread) -> Result<Option<Going
 
 /// The next step of a thread that woke: it takes its lock again.
 fn woken(site: &Site<'_>, thread: &Thread, lock: Name, count: u32) -> Option<Going>
-    ensures { IsTold site.now.image.now (state_at site.now) site.now.wish (thread_state thread.now)
+    ensures { IsToldAt site.now thread.now
         (λ c. retaken (state_at site.now) c (reverse thread.now.levels.items) lock count) result }
 {
     let _ = thread;
@@ -137,7 +130,8 @@ pub fn attempt(alloc: Global, site: &Site<'_>, thread: &Thread) -> Result<Option
     requires blanks { AreBlanks site.now.image.now site.now.blanks.now }
     requires can { CanPlan site.now.image.now (reverse thread.now.levels.items) }
     requires entry { thread.now.mode ≡ Entry → reverse thread.now.levels.items ≡ [] }
-    ensures { IfOk result (IsAttempt site.now.image.now (state_at site.now) site.now.wish (thread_state thread.now)) }
+    ensures { IfOk result (IsAttempt site.now.image.now (state_at site.now) site.now.wish
+        (thread_state thread.now)) }
 {
     match thread.mode {
         Mode::Waiting { lock, count } => Ok(woken(site, thread, lock, count)),

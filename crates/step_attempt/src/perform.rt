@@ -1,16 +1,11 @@
 //! What comes next, done as far as its answer.
 
-ghost use Rattle.std.specs.Prelude.{◌≡◌, reverse, IfOk};
-ghost use Rattle.machine_state.specs.declared.request.Request.{Request as Asking};
-ghost use Rattle.machine_state.specs.Next.{Calls, Needs};
-ghost use Rattle.machine_state.specs.Step.{performed, served};
-ghost use Rattle.program_reads.specs.Kept.{IsKept};
-ghost use Rattle.shared_state.specs.Parts.{thread_state};
+ghost use Rattle.std.specs.Prelude.{reverse, IfOk};
+ghost use Rattle.machine_state.specs.Next.{Calls};
 ghost use Rattle.step_after.specs.Conditions.{LevelsAsk};
-ghost use Rattle.step_plan.specs.Shown.{shown_next, top_frame};
 ghost use Rattle.step_plan.specs.Ways.{GoesBy};
 ghost use Rattle.step_serve.specs.Blank.{AreBlanks};
-ghost use Rattle.step_attempt.specs.Going.{IsTold, state_at};
+ghost use Rattle.step_attempt.specs.Going.{IsToldAt, CanAskAt, next_at, performs_at, serves_at, top_of};
 
 use crate::going::{Going, alone, going_on};
 use crate::site::Site;
@@ -32,8 +27,7 @@ pub(crate) fn ask(
 ) -> Result<Option<Going>, NoMemory>
     requires blanks { AreBlanks site.now.image.now site.now.blanks.now }
     requires asks { LevelsAsk site.now.image.now request (reverse thread.now.levels.items) }
-    ensures { IfOk result (IsTold site.now.image.now (state_at site.now) site.now.wish (thread_state thread.now)
-        (λ c. served site.now.image.now (state_at site.now) c thread.now.mode (reverse thread.now.levels.items) request)) }
+    ensures { IfOk result (IsToldAt site.now thread.now (serves_at site.now thread.now request)) }
 {
     let asked = asked_of(&request);
     let place = site.cell(&request);
@@ -55,8 +49,8 @@ fn call(
     method: u32,
     values: &[Value],
 ) -> Result<Option<Going>, NoMemory>
-    ensures { IfOk result (IsTold site.now.image.now (state_at site.now) site.now.wish (thread_state thread.now)
-        (λ c. performed site.now.image.now (state_at site.now) c thread.now.mode (reverse thread.now.levels.items) (Calls method values.now))) }
+    ensures { IfOk result (IsToldAt site.now thread.now
+        (performs_at site.now thread.now (Calls method values.now))) }
 {
     let _ = thread;
     match new_frame(alloc, site.image, method, values)? {
@@ -73,13 +67,10 @@ pub(crate) fn perform(
     next: Next,
 ) -> Result<Option<Going>, NoMemory>
     requires blanks { AreBlanks site.now.image.now site.now.blanks.now }
-    requires goes { GoesBy site.now.image.now (top_frame (reverse thread.now.levels.items)) next }
-    requires asks { (r : Asking) →
-        shown_next site.now.image.now (top_frame (reverse thread.now.levels.items)) next ≡ Needs r →
-        LevelsAsk site.now.image.now r (reverse thread.now.levels.items) }
-    ensures { IfOk result (IsTold site.now.image.now (state_at site.now) site.now.wish (thread_state thread.now)
-        (λ c. performed site.now.image.now (state_at site.now) c thread.now.mode (reverse thread.now.levels.items)
-        (shown_next site.now.image.now (top_frame (reverse thread.now.levels.items)) next))) }
+    requires goes { GoesBy site.now.image.now (top_of thread.now) next }
+    requires asks { CanAskAt site.now thread.now next }
+    ensures { IfOk result (IsToldAt site.now thread.now
+        (performs_at site.now thread.now (next_at site.now thread.now next))) }
 {
     let wish = site.wish;
     match next {
