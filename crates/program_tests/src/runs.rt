@@ -1,0 +1,155 @@
+//! Programs of examples/rows: what each prints, what is reported, and the status. What they print is what
+//! `java` prints, where it ends.
+
+use crate::classes::*;
+use cjvm_io::{MemShelf, VecSink};
+use one_jvm::cjvm;
+use std::alloc::Global;
+use std::test::Fail;
+
+/// Files with their names, the main class's first; what is printed and reported, and the status.
+#[derive(Clone, Copy)]
+struct Row<'a> {
+    files: &'a [(&'a str, &'a [u8])],
+    out: &'a [u8],
+    err: &'a [u8],
+    status: u8,
+}
+
+/// What a call left.
+#[derive(Drop)]
+struct Left {
+    status: u8,
+    out: Vec<u8>,
+    err: Vec<u8>,
+}
+
+/// Runs the program of these files.
+fn run(alloc: Global, files: &[(&str, &[u8])]) -> Result<Left, Fail> {
+    let mut words = Vec::new(alloc);
+    words.push(String::from_str(alloc, "run")?)?;
+    let mut held = Vec::new(alloc);
+    for (name, bytes) in files {
+        words.push(String::from_str(alloc, name)?)?;
+        held.push((
+            String::from_str(alloc, name)?,
+            Vec::from_slice(alloc, bytes)?,
+        ))?;
+    }
+    let mut shelf = MemShelf::new(held, Vec::new(alloc));
+    let mut out = VecSink::new(alloc, 1000, 7, Vec::new(alloc))?;
+    let mut err = VecSink::new(alloc, 1000, 5, Vec::new(alloc))?;
+    let outcome = cjvm(alloc, words.as_slice(), &mut shelf, &mut out, &mut err);
+    Ok(Left {
+        status: outcome.status,
+        out: Vec::from_slice(alloc, out.bytes())?,
+        err: Vec::from_slice(alloc, err.bytes())?,
+    })
+}
+
+#[test]
+fn runs_programs(rt: HostRuntime) -> Result<(), Fail> {
+    let alloc = rt.alloc();
+    let rows: [Row<'_>; 15] = [
+        Row {
+            files: &[("Edges.class", EDGES.as_slice())],
+            out: b"-2147483648\n0\n-56\n",
+            err: b"",
+            status: 0,
+        },
+        Row {
+            files: &[("Divides.class", DIVIDES.as_slice())],
+            out: b"",
+            err: b"uncaught 0 java/lang/ArithmeticException\n",
+            status: 1,
+        },
+        Row {
+            files: &[("Texts.class", TEXTS.as_slice())],
+            out: b"n=7\nn=7\n",
+            err: b"",
+            status: 0,
+        },
+        Row {
+            files: &[("Counts.class", COUNTS.as_slice())],
+            out: b"2000\n",
+            err: b"",
+            status: 0,
+        },
+        Row {
+            files: &[("Adds.class", ADDS.as_slice())],
+            out: b"3\n6\n",
+            err: b"",
+            status: 0,
+        },
+        Row {
+            files: &[("Unowned.class", UNOWNED.as_slice())],
+            out: b"",
+            err: b"uncaught 0 java/lang/IllegalMonitorStateException\n",
+            status: 1,
+        },
+        Row {
+            files: &[("Crossed.class", CROSSED.as_slice())],
+            out: b"",
+            err: b"cjvm: deadlock\n",
+            status: 9,
+        },
+        Row {
+            files: &[
+                ("Fails.class", FAILS.as_slice()),
+                ("Fails$Bad.class", FAILS_BAD.as_slice()),
+            ],
+            out: b"1\n2\n",
+            err: b"",
+            status: 0,
+        },
+        Row {
+            files: &[("Passes.class", PASSES.as_slice())],
+            out: b"5050\n",
+            err: b"",
+            status: 0,
+        },
+        Row {
+            files: &[("Starts63.class", STARTS63.as_slice())],
+            out: b"",
+            err: b"",
+            status: 0,
+        },
+        Row {
+            files: &[("Starts64.class", STARTS64.as_slice())],
+            out: b"",
+            err: b"cjvm: threads full\n",
+            status: 10,
+        },
+        Row {
+            files: &[("Recurses.class", RECURSES.as_slice())],
+            out: b"1\n",
+            err: b"",
+            status: 0,
+        },
+        Row {
+            files: &[("Waits.class", WAITS.as_slice())],
+            out: b"",
+            err: b"cjvm: deadlock\n",
+            status: 9,
+        },
+        Row {
+            files: &[("Casts.class", CASTS.as_slice())],
+            out: b"0 10\n1 11\n2 12\n3 13\n4 14\n5 15\n6 7\n",
+            err: b"",
+            status: 0,
+        },
+        Row {
+            files: &[("Loops.class", LOOPS.as_slice())],
+            out: b"1\n",
+            err: b"cjvm: step limit thread 0\n",
+            status: 8,
+        },
+    ];
+    for row in rows {
+        let left = run(alloc, row.files)?;
+        assert_eq!(rt; left.status, row.status);
+        assert_eq!(rt; left.out.as_slice(), row.out);
+        assert_eq!(rt; left.err.as_slice(), row.err);
+    }
+    Ok(())
+}
