@@ -81,8 +81,8 @@ def main():
         path = os.path.join(folder, "A.class")
         empty = (0, 0)
         for name, length in each_file(KINDS, path):
-            read = least_time([CJVM, "run", path], 14 if name else 3)
-            both = least_time([DECODE, path], 0, None)
+            read = least_time([CJVM, "check", path], (3,))
+            both = least_time([DECODE, path], (0,), None)
             if name is None:
                 empty = (read, both)
                 print(f"an empty file: {read * 1000:.2f} ms, {both * 1000:.2f} ms")

@@ -1,8 +1,8 @@
 #!/usr/bin/env python3
 """Times how the built program links 10, 100 and 1,000 classes: a flat set, a chain, a diamond of interfaces.
 
-Each class has methods with code that name members of other classes. The programs link and aren't thin, so
-each run answers 14. Prints the time a class, net of the time of one small class, as the least of several
+Each class has methods with code that name members of other classes. The programs are checked, which verifies
+them too; each is accepted. Prints the time a class, net of the time of one small class, as the least of several
 runs. Behind them come hostile programs, of files that make a rule compare or read much again and again; of
 these it prints the time a megabyte. Usage: bench/linking.py (the program is built by ./cjvm).
 """
@@ -203,19 +203,19 @@ def written(folder, files):
 def main():
     need_programs(CJVM)
     with tempfile.TemporaryDirectory() as folder:
-        small = least_time([CJVM, "run", *written(folder, flat(1))], 14)
+        small = least_time([CJVM, "check", *written(folder, flat(1))], (0,), None)
         print(f"one class: {small * 1000:.2f} ms")
         for name, make in KINDS:
             for count in COUNTS:
                 files = make(count)
                 size = sum(map(len, files))
-                took = least_time([CJVM, "run", *written(folder, files)], 14)
+                took = least_time([CJVM, "check", *written(folder, files)], (0,), None)
                 net = max(took - small, 0) / count * 1e6
                 print(f"{name:24} {count:5} classes, {size:8} bytes: {took * 1000:8.2f} ms, {net:7.1f} us a class")
         for name, make in HOSTILE:
             files = make()
             size = sum(map(len, files))
-            took = least_time([CJVM, "run", *written(folder, files)], 14, None)
+            took = least_time([CJVM, "check", *written(folder, files)], (0, 3), None)
             print(f"{name:48} {size:8} bytes: {took * 1000:9.2f} ms, {took * 1e9 / size:7.1f} ms a megabyte")
 
 

@@ -25,8 +25,8 @@ def need_programs(*programs):
             sys.exit(f"build {os.path.basename(path)} first: rt run in its crate's folder")
 
 
-def least_time(words, status, output=b""):
-    """The least time, in seconds, of some runs of these words, each of which must answer as said.
+def least_time(words, statuses, output=b""):
+    """The least time, in seconds, of some runs of these words, each of which must end with one of the statuses.
 
     An output of None is any output."""
     best, spent = None, 0
@@ -34,7 +34,7 @@ def least_time(words, status, output=b""):
         start = time.perf_counter()
         done = subprocess.run(words, capture_output=True, check=False)
         took = time.perf_counter() - start
-        if done.returncode != status or output not in (None, done.stdout):
+        if done.returncode not in statuses or output not in (None, done.stdout):
             sys.exit(f"status {done.returncode}, output {done.stdout!r}, error {done.stderr!r}")
         best = took if best is None else min(best, took)
         spent += took

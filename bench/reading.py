@@ -1,7 +1,7 @@
 #!/usr/bin/env python3
 """Times how the built program reads class files of three sizes a factor of ten apart.
 
-The files are class files that aren't thin, so the program reads them whole and answers 14. Prints for
+The files are class files without a `main`, so `check` reads them whole and refuses them then. Prints for
 each kind and size the bytes, and the time a byte, net of the time of an empty program, as the least of
 several runs. Usage: bench/reading.py (the program is built by ./cjvm).
 """
@@ -52,7 +52,7 @@ def main():
         path = os.path.join(folder, "A.class")
         empty = 0
         for name, length in each_file(KINDS, path):
-            took = least_time([CJVM, "run", path], 14 if name else 3)
+            took = least_time([CJVM, "check", path], (3,))
             if name is None:
                 empty = took
                 print(f"an empty file: {empty * 1000:.2f} ms")

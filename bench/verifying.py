@@ -152,13 +152,13 @@ def written(folder, files):
 def main():
     need_programs(CJVM)
     with tempfile.TemporaryDirectory() as folder:
-        small = least_time([CJVM, "check", *written(folder, [in_file(straight(7), 1)])], 0, None)
+        small = least_time([CJVM, "check", *written(folder, [in_file(straight(7), 1)])], (0,), None)
         print(f"one small class: {small * 1000:.2f} ms")
         for name, sizes in KINDS:
             for make in sizes:
                 files = make()
                 size = sum(map(len, files))
-                took = least_time([CJVM, "check", *written(folder, files)], 0, None)
+                took = least_time([CJVM, "check", *written(folder, files)], (0,), None)
                 net = max(took - small, 0) / size * 1e9
                 print(f"{name:40} {size:8} bytes: {took * 1000:9.2f} ms, {net:9.1f} ns a byte")
 
