@@ -16,7 +16,7 @@ use Rattle.machine_state.specs.Step.{Taken, attempt, by_mode}
 use Rattle.machine_state.proofs.LikenessLaws.{one_next}
 use Rattle.machine_state.proofs.NameTests.{some_is}
 use Rattle.scheduler.specs.Running.{at_limit, IsFull}
-use Rattle.one_jvm.specs.Runs.{step_limit, IsEnd}
+use Rattle.one_jvm.specs.Runs.{Job, IsEnd}
 use Rattle.one_jvm.specs.declared.outcome.Stop.{Stop}
 use Rattle.one_jvm.specs.declared.outcome.Stop.TheVariants.{Done, Uncaught, StepLimit, Deadlock, ThreadsFull, WriteFault, NoMemory}
 
@@ -47,14 +47,14 @@ all_of_end p m e = by_test (list_all (λ x. is_ended x.mode) m.threads) refl e
     by_test false h f = absurd (by_rest (some_can p m 0 m.threads) f)
 
 -- a thread that has ended isn't at the limit
-no_limit : (p : Program) (m : State) (t : ℕ) → end_of p m ≡ AllEnded → at_limit step_limit (slice_get m.threads t) ≡ true → ⊥
-no_limit p m t e l = by_thread (slice_get m.threads t) refl l
+no_limit : (p : Program) (limit : ℕ) (m : State) (t : ℕ) → end_of p m ≡ AllEnded → at_limit limit (slice_get m.threads t) ≡ true → ⊥
+no_limit p limit m t e l = by_thread (slice_get m.threads t) refl l
   where
-    by_ended : (b : Bool) (n : ℕ) → b ≡ true → (not b && nat_le step_limit n) ≡ true → ⊥
+    by_ended : (b : Bool) (n : ℕ) → b ≡ true → (not b && nat_le limit n) ≡ true → ⊥
     by_ended true n h f = absurd cc
     by_ended false n h f = absurd cc
 
-    by_thread : (o : Option ThreadState) → slice_get m.threads t ≡ o → at_limit step_limit o ≡ true → ⊥
+    by_thread : (o : Option ThreadState) → slice_get m.threads t ≡ o → at_limit limit o ≡ true → ⊥
     by_thread None h f = absurd cc
     by_thread (Some th) h f = by_ended (is_ended th.mode) th.steps (one_of_all m.threads t th (all_of_end p m e) h) f
 
@@ -111,34 +111,34 @@ dead_full p m t e f =
 
 -- ---- one end at most, of those that a state tells
 
-pub is_done : (p : Program) (m : State) (s : Stop) → IsEnd p m Done → IsEnd p m s → s ≡ Done
-is_done p m Done d e = refl
-is_done p m Uncaught d e = absurd (e.1 d.1)
-is_done p m (StepLimit t) d e = absurd (no_limit p m t d.0 e)
-is_done p m Deadlock d e = absurd (let f : AllEnded ≡ Dead = sym d.0 ∙ e.0 in cc)
-is_done p m (ThreadsFull t) d e = absurd (no_start p m t d.0 e)
-is_done p m WriteFault d e = absurd e
-is_done p m NoMemory d e = absurd e
+pub is_done : (j : Job) (m : State) (s : Stop) → IsEnd j m Done → IsEnd j m s → s ≡ Done
+is_done j m Done d e = refl
+is_done j m Uncaught d e = absurd (e.1 d.1)
+is_done j m (StepLimit t) d e = absurd (no_limit j.program j.steps m t d.0 e)
+is_done j m Deadlock d e = absurd (let f : AllEnded ≡ Dead = sym d.0 ∙ e.0 in cc)
+is_done j m (ThreadsFull t) d e = absurd (no_start j.program m t d.0 e)
+is_done j m WriteFault d e = absurd e
+is_done j m NoMemory d e = absurd e
 
-pub is_uncaught : (p : Program) (m : State) (s : Stop) → IsEnd p m Uncaught → IsEnd p m s → s ≡ Uncaught
-is_uncaught p m Done d e = absurd (d.1 e.1)
-is_uncaught p m Uncaught d e = refl
-is_uncaught p m (StepLimit t) d e = absurd (no_limit p m t d.0 e)
-is_uncaught p m Deadlock d e = absurd (let f : AllEnded ≡ Dead = sym d.0 ∙ e.0 in cc)
-is_uncaught p m (ThreadsFull t) d e = absurd (no_start p m t d.0 e)
-is_uncaught p m WriteFault d e = absurd e
-is_uncaught p m NoMemory d e = absurd e
+pub is_uncaught : (j : Job) (m : State) (s : Stop) → IsEnd j m Uncaught → IsEnd j m s → s ≡ Uncaught
+is_uncaught j m Done d e = absurd (d.1 e.1)
+is_uncaught j m Uncaught d e = refl
+is_uncaught j m (StepLimit t) d e = absurd (no_limit j.program j.steps m t d.0 e)
+is_uncaught j m Deadlock d e = absurd (let f : AllEnded ≡ Dead = sym d.0 ∙ e.0 in cc)
+is_uncaught j m (ThreadsFull t) d e = absurd (no_start j.program m t d.0 e)
+is_uncaught j m WriteFault d e = absurd e
+is_uncaught j m NoMemory d e = absurd e
 
 -- the limit was tested before
 not_limit : (b : Bool) → b ≡ true → b ≡ false → ⊥
 not_limit true e f = absurd cc
 not_limit false e f = absurd cc
 
-pub is_deadlock : (p : Program) (m : State) (s : Stop) → IsEnd p m Deadlock → IsEnd p m s → s ≡ Deadlock
-is_deadlock p m Done d e = absurd (let f : AllEnded ≡ Dead = sym e.0 ∙ d.0 in cc)
-is_deadlock p m Uncaught d e = absurd (let f : AllEnded ≡ Dead = sym e.0 ∙ d.0 in cc)
-is_deadlock p m (StepLimit t) d e = absurd (not_limit (at_limit step_limit (slice_get m.threads t)) e (d.1 t))
-is_deadlock p m Deadlock d e = refl
-is_deadlock p m (ThreadsFull t) d e = absurd (dead_full p m t d.0 e)
-is_deadlock p m WriteFault d e = absurd e
-is_deadlock p m NoMemory d e = absurd e
+pub is_deadlock : (j : Job) (m : State) (s : Stop) → IsEnd j m Deadlock → IsEnd j m s → s ≡ Deadlock
+is_deadlock j m Done d e = absurd (let f : AllEnded ≡ Dead = sym e.0 ∙ d.0 in cc)
+is_deadlock j m Uncaught d e = absurd (let f : AllEnded ≡ Dead = sym e.0 ∙ d.0 in cc)
+is_deadlock j m (StepLimit t) d e = absurd (not_limit (at_limit j.steps (slice_get m.threads t)) e (d.1 t))
+is_deadlock j m Deadlock d e = refl
+is_deadlock j m (ThreadsFull t) d e = absurd (dead_full j.program m t d.0 e)
+is_deadlock j m WriteFault d e = absurd e
+is_deadlock j m NoMemory d e = absurd e

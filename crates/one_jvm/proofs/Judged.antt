@@ -15,12 +15,12 @@ use Rattle.one_jvm.specs.declared.outcome.Refusal.{Refusal}
 use Rattle.one_jvm.specs.declared.outcome.Refusal.TheVariants.{Usage, File, Link, Flow, NoFile, ReadFault, WriteFault, TooLong, NoMemory}
 use Rattle.one_jvm.specs.Words.{Asked, IsCall, IsCheck}
 use Rattle.one_jvm.specs.Verdicts.{Names, StopsAt, main_of, IsProgram, IsVerdict}
-use Rattle.one_jvm.specs.Answers.{Faults, IsAny, IsHindered, Because, Agrees, Wrote, Says, Ran, Accepts, IsAccepted, IsUnwritten, refusal_of, IsToldText, IsEndText, IsSubject}
+use Rattle.one_jvm.specs.Answers.{Faults, IsAny, IsHindered, Because, Agrees, Wrote, Says, Ran, Accepts, IsAccepted, IsJob, IsUnwritten, refusal_of, IsToldText, IsEndText, IsSubject}
 use Rattle.one_jvm.specs.Steps.Loading.{AreFound, RefusesProgram, LoadFails, HasText, HasNoProgram, Programs}
 use Rattle.one_jvm.specs.Steps.RunSteps.{TellsWhole}
 use Rattle.one_jvm.specs.Steps.Speaking.{IsToldOf, IsSilent, Speaks}
 use Rattle.one_jvm.specs.declared.loading.Refused.{Refused}
-use Rattle.one_jvm.specs.Runs.{RanTo}
+use Rattle.one_jvm.specs.Runs.{job_of, RanTo}
 use Rattle.one_jvm.proofs.LoadLemmas.{are_classes}
 use Rattle.one_jvm.proofs.RunLoop.{done_silent}
 use Rattle.one_jvm.proofs.WordLemmas.{no_check}
@@ -44,8 +44,8 @@ module _ (words : List (List ℕ)) (told : Option Files) (a : Asked) (call : IsC
 
   -- reading failed
   fails : (faults : Faults) (e : Refusal) → LoadFails told a.files faults.read_before faults.read_now e → IsHindered told words faults (Some e)
-  fails faults (ReadFault k) h = record { is_call = (a, call); hindrance = ReadFault k; strikes = record { rose = h.0; stops = names (λ asked. StopsAt IsAny k) h.1 }; shows = refl }
-  fails faults NoMemory h = record { is_call = (a, call); hindrance = NoMemory; strikes = tt; shows = refl }
+  fails faults (ReadFault k) h = record { hindrance = ReadFault k; strikes = record { rose = h.0; stops = names (λ asked. StopsAt IsAny k) h.1 }; shows = refl }
+  fails faults NoMemory h = record { hindrance = NoMemory; strikes = tt; shows = refl }
   fails faults Usage h = absurd h
   fails faults (Link e) h = absurd h
   fails faults (Flow e) h = absurd h
@@ -90,7 +90,11 @@ module _ (words : List (List ℕ)) (told : Option Files) (a : Asked) (call : IsC
     pub has_program : Names told words (IsProgram p)
     has_program = names (IsProgram p) h
 
-    -- which can be run
+    -- it is run as they ask
+    pub has_job : Names told words (IsJob (job_of p a))
+    has_job = names (IsJob (job_of p a)) (record { contents = h.contents; under = h.under; such = record { program = h.such; is = refl } })
+
+    -- it can be run
     pub can_run : RunnableLaw → CanRun p
     can_run law =
         let l = h.such.accepted in
@@ -101,32 +105,32 @@ module _ (words : List (List ℕ)) (told : Option Files) (a : Asked) (call : IsC
     ran = inl (p, has_program)
 
     -- why such a call ends so
-    pub because_ran : (s : Stop) (order : List Choice) → RanTo p order before now s → Because words told faults (refusal_of s)
+    pub because_ran : (s : Stop) (order : List Choice) → RanTo (job_of p a) order before now s → Because words told faults (refusal_of s)
     because_ran stop.Done order r = inl ran
     because_ran stop.Uncaught order r = inl ran
     because_ran (stop.StepLimit t) order r = inl ran
     because_ran stop.Deadlock order r = inl ran
     because_ran (stop.ThreadsFull t) order r = inl ran
-    because_ran stop.WriteFault order r = inr (record { is_call = (a, call); hindrance = WriteFault; strikes = rw (b, n) at r.1; shows = refl })
-    because_ran stop.NoMemory order r = inr (record { is_call = (a, call); hindrance = NoMemory; strikes = tt; shows = refl })
+    because_ran stop.WriteFault order r = inr (record { hindrance = WriteFault; strikes = ((a, call), rw (b, n) at r.1); shows = refl })
+    because_ran stop.NoMemory order r = inr (record { hindrance = NoMemory; strikes = tt; shows = refl })
 
     -- no check runs a program
     pub agrees_ran : (s : Stop) (refusal : Option Refusal) → refusal ≡ refusal_of s → Agrees words (Some s) refusal
     agrees_ran s refusal e = (no_check words a call h.such.run, e)
 
     -- what its end tells
-    pub told_ran : (s : Stop) (order : List Choice) (text : List ℕ) → TellsWhole p order s text → IsToldOf told words order (Some s) (refusal_of s) text
-    told_ran stop.Done order text t = (p, has_program, t)
-    told_ran stop.Uncaught order text t = (p, has_program, t)
-    told_ran (stop.StepLimit k) order text t = (p, has_program, t)
-    told_ran stop.Deadlock order text t = (p, has_program, t)
-    told_ran (stop.ThreadsFull k) order text t = (p, has_program, t)
+    pub told_ran : (s : Stop) (order : List Choice) (text : List ℕ) → TellsWhole (job_of p a) order s text → IsToldOf told words order (Some s) (refusal_of s) text
+    told_ran stop.Done order text t = (job_of p a, has_job, t)
+    told_ran stop.Uncaught order text t = (job_of p a, has_job, t)
+    told_ran (stop.StepLimit k) order text t = (job_of p a, has_job, t)
+    told_ran stop.Deadlock order text t = (job_of p a, has_job, t)
+    told_ran (stop.ThreadsFull k) order text t = (job_of p a, has_job, t)
     told_ran stop.WriteFault order text t = tt
     told_ran stop.NoMemory order text t = tt
 
     -- which is nothing where all threads have ended without an exception
-    pub silent_ran : (s : Stop) (order : List Choice) (text : List ℕ) → RanTo p order before now s → TellsWhole p order s text → IsSilent (Some s) text
-    silent_ran stop.Done order text r t = done_silent p order before now text r t
+    pub silent_ran : (s : Stop) (order : List Choice) (text : List ℕ) → RanTo (job_of p a) order before now s → TellsWhole (job_of p a) order s text → IsSilent (Some s) text
+    silent_ran stop.Done order text r t = done_silent (job_of p a) order before now text r t
     silent_ran stop.Uncaught order text r t = tt
     silent_ran (stop.StepLimit k) order text r t = tt
     silent_ran stop.Deadlock order text r t = tt
@@ -150,7 +154,7 @@ module _ (words : List (List ℕ)) (told : Option Files) (a : Asked) (call : IsC
     pub because_said : (refusal : Option Refusal) → Says line before now refusal → Because words told faults refusal
     because_said None s = inl (inr (record { asked = a; is_call = call; contents = h.contents; under = h.under; such = h.such.checked }))
     because_said (Some e) s =
-        inr (record { is_call = (a, call); hindrance = WriteFault; strikes = rw (b, n) at s.1; shows = subst (λ (x : Refusal). Some x ≡ Some WriteFault) (sym s.0) refl })
+        inr (record { hindrance = WriteFault; strikes = ((a, call), rw (b, n) at s.1); shows = subst (λ (x : Refusal). Some x ≡ Some WriteFault) (sym s.0) refl })
 
     -- what standard output gained
     pub wrote_said : (refusal : Option Refusal) → Says line before now refusal → Wrote words told before now refusal

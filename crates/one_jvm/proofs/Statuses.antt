@@ -7,8 +7,7 @@ use Rattle.cjvm_io.specs.Shelves.{Files}
 use Rattle.cjvm_io.specs.Sinks.{Showing}
 use Rattle.machine_state.specs.declared.state.Choice.{Choice}
 use Rattle.machine_state.specs.State.{State}
-use Rattle.program_image.specs.Program.{Program}
-use Rattle.one_jvm.specs.Runs.{LeadsTo, IsEnd, RanTo}
+use Rattle.one_jvm.specs.Runs.{Job, LeadsTo, IsEnd, RanTo}
 use Rattle.one_jvm.specs.Steps.Speaking.{IsSilent, Speaks}
 use Rattle.one_jvm.proofs.EndLaws.{is_done, is_uncaught, is_deadlock}
 use Rattle.one_jvm.specs.declared.outcome.Stop.{Stop}
@@ -87,7 +86,7 @@ read_rose told words faults (TooLong k) h e = absurd h
 -- a write fault's count rose
 write_rose : (told : Option Files) (words : List (List ℕ)) (faults : Faults) (e : Refusal) → IsHindrance told words faults e → status_of (Some e) ≡ 6 → Rose faults.wrote_before faults.wrote_now
 write_rose told words faults (ReadFault k) h e = absurd (omega arith)
-write_rose told words faults WriteFault h e = h
+write_rose told words faults WriteFault h e = h.1
 write_rose told words faults NoMemory h e = absurd (omega arith)
 write_rose told words faults Usage h e = absurd h
 write_rose told words faults (File k why) h e = absurd h
@@ -127,6 +126,18 @@ no_run told words (Some (TooLong k)) n h = absurd (n h.asked h.is_call)
 no_run told words (Some (ReadFault k)) n h = absurd h
 no_run told words (Some WriteFault) n h = absurd h
 no_run told words (Some NoMemory) n h = absurd h
+
+-- only want of memory hinders a call whose words are no command
+wants : (told : Option Files) (words : List (List ℕ)) (faults : Faults) (e : Refusal) → IsHindrance told words faults e → IsNoCall words → status_of (Some e) ≡ 20
+wants told words faults NoMemory h n = refl
+wants told words faults (ReadFault k) h n = absurd (n h.stops.asked h.stops.is_call)
+wants told words faults WriteFault h n = absurd (n h.0.0 h.0.1)
+wants told words faults Usage h n = absurd h
+wants told words faults (File k why) h n = absurd h
+wants told words faults (Link x) h n = absurd h
+wants told words faults (Flow x) h n = absurd h
+wants told words faults (NoFile k) h n = absurd h
+wants told words faults (TooLong k) h n = absurd h
 
 -- ---- as the call knows them
 
@@ -250,7 +261,7 @@ module _ (words : List (List ℕ)) (told : Option Files) (faults : Faults) (s : 
   }
 
   -- words that are no command have their status, whatever the files
-  pub usage : Exactly status 2 (6 ∷ []) (IsNoCall words)
+  pub usage : Exactly status 2 broken (IsNoCall words)
   usage = record {
     only = λ e. ⊎_elim
         (λ p. ⊎_elim
@@ -260,7 +271,7 @@ module _ (words : List (List ℕ)) (told : Option Files) (faults : Faults) (s : 
     always = λ n. ⊎_elim
         (λ p. ⊎_elim
         (λ o. inl (p ∙ ap (outcome_status s) (no_run told words plain n o)))
-        (λ x. absurd (n x.is_call.0 x.is_call.1)) b)
+        (λ x. inr (inr (inl (p ∙ ap (outcome_status s) x.shows ∙ wants told words faults x.hindrance x.strikes n)))) b)
         (λ p. inr (inl p)) shows;
   }
 
@@ -407,7 +418,7 @@ full_by stop.WriteFault e = absurd (omega arith)
 full_by stop.NoMemory e = absurd (omega arith)
 
 -- how a run ended, as far as its status tells
-module _ (p : Program) (last : State) (s : Stop) (e : IsEnd p last s) (refusal : Option Refusal) (status : ℕ) (is : status ≡ outcome_status (Some s) refusal) (h : IsOrHides None refusal) where
+module _ (j : Job) (last : State) (s : Stop) (e : IsEnd j last s) (refusal : Option Refusal) (status : ℕ) (is : status ≡ outcome_status (Some s) refusal) (h : IsOrHides None refusal) where
   -- it is that of the end, or of a write fault
   run_shows : (status ≡ end_status (Some s)) ⊎ (status ≡ 6)
   run_shows = ⊎_elim (λ q. inl (is ∙ ap (outcome_status (Some s)) q)) (λ q. inr (is ∙ ap (outcome_status (Some s)) q)) h
@@ -420,30 +431,30 @@ module _ (p : Program) (last : State) (s : Stop) (e : IsEnd p last s) (refusal :
   comes : (x : Stop) → s ≡ x → OneOf (end_status (Some x) ∷ broken) status
   comes x q = ⊎_elim (λ r. inl (r ∙ ap (λ (y : Stop). end_status (Some y)) q)) (λ r. inr (inl r)) run_shows
 
-  ends_as : (x : Stop) → s ≡ x → IsEnd p last x
-  ends_as x q = subst (IsEnd p last) q e
+  ends_as : (x : Stop) → s ≡ x → IsEnd j last x
+  ends_as x q = subst (IsEnd j last) q e
 
-  run_done : Exactly status 0 broken (IsEnd p last stop.Done)
-  run_done = record { only = λ q. ends_as stop.Done (done_by s (of_end 0 (λ r. absurd (omega arith)) q)); always = λ d. comes stop.Done (is_done p last s d e) }
+  run_done : Exactly status 0 broken (IsEnd j last stop.Done)
+  run_done = record { only = λ q. ends_as stop.Done (done_by s (of_end 0 (λ r. absurd (omega arith)) q)); always = λ d. comes stop.Done (is_done j last s d e) }
 
-  run_uncaught : Exactly status 1 broken (IsEnd p last stop.Uncaught)
-  run_uncaught = record { only = λ q. ends_as stop.Uncaught (uncaught_by s (of_end 1 (λ r. absurd (omega arith)) q)); always = λ d. comes stop.Uncaught (is_uncaught p last s d e) }
+  run_uncaught : Exactly status 1 broken (IsEnd j last stop.Uncaught)
+  run_uncaught = record { only = λ q. ends_as stop.Uncaught (uncaught_by s (of_end 1 (λ r. absurd (omega arith)) q)); always = λ d. comes stop.Uncaught (is_uncaught j last s d e) }
 
-  run_deadlock : Exactly status 9 broken (IsEnd p last stop.Deadlock)
-  run_deadlock = record { only = λ q. ends_as stop.Deadlock (deadlock_by s (of_end 9 (λ r. absurd (omega arith)) q)); always = λ d. comes stop.Deadlock (is_deadlock p last s d e) }
+  run_deadlock : Exactly status 9 broken (IsEnd j last stop.Deadlock)
+  run_deadlock = record { only = λ q. ends_as stop.Deadlock (deadlock_by s (of_end 9 (λ r. absurd (omega arith)) q)); always = λ d. comes stop.Deadlock (is_deadlock j last s d e) }
 
-  run_limit : status ≡ 8 → (t : ℕ) × IsEnd p last (stop.StepLimit t)
+  run_limit : status ≡ 8 → (t : ℕ) × IsEnd j last (stop.StepLimit t)
   run_limit q = let l = limit_by s (of_end 8 (λ r. absurd (omega arith)) q) in (l.0, ends_as (stop.StepLimit l.0) l.1)
 
-  run_full : status ≡ 10 → (t : ℕ) × IsEnd p last (stop.ThreadsFull t)
+  run_full : status ≡ 10 → (t : ℕ) × IsEnd j last (stop.ThreadsFull t)
   run_full q = let l = full_by s (of_end 10 (λ r. absurd (omega arith)) q) in (l.0, ends_as (stop.ThreadsFull l.0) l.1)
 
-  end_status_of : (order : List Choice) → LeadsTo p order last → HasEndStatus p order status
+  end_status_of : (order : List Choice) → LeadsTo j order last → HasEndStatus j order status
   end_status_of order leads = record { last = last; leads = leads; done = run_done; uncaught = run_uncaught; deadlock = run_deadlock; step_limit = run_limit; threads_full = run_full }
 
 -- a run that was cut off has the status of that
-cut_status : (p : Program) (order : List Choice) (last : State) (status : ℕ) → LeadsTo p order last → OneOf broken status → HasEndStatus p order status
-cut_status p order last status leads o = record {
+cut_status : (j : Job) (order : List Choice) (last : State) (status : ℕ) → LeadsTo j order last → OneOf broken status → HasEndStatus j order status
+cut_status j order last status leads o = record {
   last = last;
   leads = leads;
   done = record { only = λ q. absurd (apart broken 0 refl (subst (OneOf broken) q o)); always = λ d. inr o };
@@ -459,14 +470,14 @@ cut_is s e refusal status o is (inl q) = subst (OneOf broken) (sym (is ∙ ap (o
 cut_is s e refusal status o is (inr q) = inl (is ∙ ap (outcome_status (Some s)) q)
 
 -- by how it ended
-run_status_by : (p : Program) (order : List Choice) (before now : Showing) (s : Stop) (refusal : Option Refusal) (status : ℕ) → RanTo p order before now s → status ≡ outcome_status (Some s) refusal → IsOrHides (refusal_of s) refusal → HasEndStatus p order status
-run_status_by p order before now stop.Done refusal status r is h = end_status_of p r.last stop.Done r.ended refusal status is h order r.leads
-run_status_by p order before now stop.Uncaught refusal status r is h = end_status_of p r.last stop.Uncaught r.ended refusal status is h order r.leads
-run_status_by p order before now (stop.StepLimit t) refusal status r is h = end_status_of p r.last (stop.StepLimit t) r.ended refusal status is h order r.leads
-run_status_by p order before now stop.Deadlock refusal status r is h = end_status_of p r.last stop.Deadlock r.ended refusal status is h order r.leads
-run_status_by p order before now (stop.ThreadsFull t) refusal status r is h = end_status_of p r.last (stop.ThreadsFull t) r.ended refusal status is h order r.leads
-run_status_by p order before now stop.WriteFault refusal status r is h = cut_status p order r.0.last status r.0.leads (cut_is stop.WriteFault WriteFault refusal status (inl refl) is h)
-run_status_by p order before now stop.NoMemory refusal status r is h = cut_status p order r.last status r.leads (cut_is stop.NoMemory NoMemory refusal status (inr (inl refl)) is h)
+run_status_by : (j : Job) (order : List Choice) (before now : Showing) (s : Stop) (refusal : Option Refusal) (status : ℕ) → RanTo j order before now s → status ≡ outcome_status (Some s) refusal → IsOrHides (refusal_of s) refusal → HasEndStatus j order status
+run_status_by j order before now stop.Done refusal status r is h = end_status_of j r.last stop.Done r.ended refusal status is h order r.leads
+run_status_by j order before now stop.Uncaught refusal status r is h = end_status_of j r.last stop.Uncaught r.ended refusal status is h order r.leads
+run_status_by j order before now (stop.StepLimit t) refusal status r is h = end_status_of j r.last (stop.StepLimit t) r.ended refusal status is h order r.leads
+run_status_by j order before now stop.Deadlock refusal status r is h = end_status_of j r.last stop.Deadlock r.ended refusal status is h order r.leads
+run_status_by j order before now (stop.ThreadsFull t) refusal status r is h = end_status_of j r.last (stop.ThreadsFull t) r.ended refusal status is h order r.leads
+run_status_by j order before now stop.WriteFault refusal status r is h = cut_status j order r.0.last status r.0.leads (cut_is stop.WriteFault WriteFault refusal status (inl refl) is h)
+run_status_by j order before now stop.NoMemory refusal status r is h = cut_status j order r.last status r.leads (cut_is stop.NoMemory NoMemory refusal status (inr (inl refl)) is h)
 
 -- the status of a call is that of the end of its order
 pub run_status : (words : List (List ℕ)) (told : Option Files) (before now : Showing) (order : List Choice) (s : Option Stop) (plain refusal : Option Refusal) (status : ℕ) → Ran words told before now order s plain → Agrees words s plain → status ≡ outcome_status s refusal → IsOrHides plain refusal → EndsRun words told order s status

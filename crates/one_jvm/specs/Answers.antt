@@ -7,7 +7,6 @@ use Rattle.cjvm_io.specs.Sinks.{Showing, GainsFront}
 use Rattle.class_format.specs.declared.class.ClassFile.{ClassFile}
 use Rattle.machine_state.specs.declared.state.Choice.{Choice}
 use Rattle.machine_state.specs.State.{State}
-use Rattle.program_image.specs.Program.{Program}
 use Rattle.one_jvm.specs.declared.outcome.Stop.{Stop}
 use Rattle.one_jvm.specs.declared.outcome.Stop.TheVariants as stop
 use Rattle.one_jvm.specs.declared.outcome.Refusal.{Refusal}
@@ -15,7 +14,7 @@ use Rattle.one_jvm.specs.declared.outcome.Refusal.TheVariants.{Usage, File, Link
 use Rattle.one_jvm.specs.Words.{Asked, IsCall, IsSomeCall, IsCheck, name_at}
 use Rattle.one_jvm.specs.Verdicts.{AreClassFiles, Names, StopsFor, IsProgram, IsChecked, IsVerdict}
 use Rattle.one_jvm.specs.Outcomes.{place_of, told_text, accepted_text, ending_text, report}
-use Rattle.one_jvm.specs.Runs.{LeadsTo, IsEnd, RanTo}
+use Rattle.one_jvm.specs.Runs.{Job, job_of, LeadsTo, IsEnd, RanTo}
 
 -- ---- the cause of a refusal, apart from faults of standard error
 
@@ -45,11 +44,13 @@ pub record IsUnread (told : Option Files) (words : List (List ℕ)) (before now 
   pub rose : Rose before now
   pub stops : StopsFor IsAny k told words
 
--- a fault of the shelf or of standard output, or want of memory, which may come at any time
+-- a fault of the shelf or of standard output, where the words are a command's, or want of memory,
+-- which may come at any time
 abbrev pub IsHindrance : Option Files → List (List ℕ) → Faults → Refusal → Type 0
 IsHindrance told words faults (ReadFault k) =
     IsUnread told words faults.read_before faults.read_now k
-IsHindrance told words faults WriteFault = Rose faults.wrote_before faults.wrote_now
+IsHindrance told words faults WriteFault =
+    IsSomeCall words × Rose faults.wrote_before faults.wrote_now
 IsHindrance told words faults NoMemory = Unit {0}
 IsHindrance told words faults Usage = ⊥
 IsHindrance told words faults (File k why) = ⊥
@@ -58,10 +59,9 @@ IsHindrance told words faults (Flow e) = ⊥
 IsHindrance told words faults (NoFile k) = ⊥
 IsHindrance told words faults (TooLong k) = ⊥
 
--- a hindrance kept the call from its verdict; it comes only where the words are a command's
+-- a hindrance kept the call from its verdict
 pub record IsHindered (told : Option Files) (words : List (List ℕ)) (faults : Faults)
     (refusal : Option Refusal) : Type 0 where
-  pub is_call : IsSomeCall words
   pub hindrance : Refusal
   pub strikes : IsHindrance told words faults hindrance
   pub shows : refusal ≡ Some hindrance
@@ -108,12 +108,17 @@ IsUnwritten words stop refusal =
     (stop ≡ None)
     × (¬ IsCheck words ⊎ ((refusal ≢ None) × (refusal ≢ Some WriteFault)))
 
+-- the program of accepted files, as the words ask to run it
+pub record IsJob (j : Job) (asked : Asked) (contents : List (Option (List ℕ))) : Type 0 where
+  pub program : IsProgram j.program asked contents
+  pub is : j ≡ job_of j.program asked
+
 -- where no run was begun the order is empty; where one was, it is one of the files' program
 abbrev pub Ran : List (List ℕ) → Option Files → Showing → Showing → List Choice → Option Stop
     → Option Refusal → Type 0
 Ran words told before now order None refusal = (order ≡ []) × Wrote words told before now refusal
 Ran words told before now order (Some s) refusal =
-    (p : Program) × Names told words (IsProgram p) × RanTo p order before now s
+    (j : Job) × Names told words (IsJob j) × RanTo j order before now s
 
 -- a run is refused where a write of its output failed or memory ran out
 abbrev pub refusal_of : Stop → Option Refusal
@@ -150,10 +155,10 @@ IsNamed words e name =
     → name ≡ name_at asked.files k
 
 -- the text tells of the order's end, and of what nothing caught until then
-pub record TellsEnd (p : Program) (order : List Choice) (s : Stop) (text : List ℕ) : Type 0 where
+pub record TellsEnd (j : Job) (order : List Choice) (s : Stop) (text : List ℕ) : Type 0 where
   pub last : State
-  pub leads : LeadsTo p order last
-  pub is : text ≡ ending_text p s last.uncaught
+  pub leads : LeadsTo j order last
+  pub is : text ≡ ending_text j.program s last.uncaught
 
 -- what the end of a call that isn't refused tells: a check's nothing, a run's that of the files'
 -- program
@@ -161,7 +166,7 @@ abbrev pub IsEndText : Option Files → List (List ℕ) → List Choice → Opti
     → Type 0
 IsEndText told words order None text = text ≡ []
 IsEndText told words order (Some s) text =
-    (p : Program) × Names told words (IsProgram p) × TellsEnd p order s text
+    (j : Job) × Names told words (IsJob j) × TellsEnd j order s text
 
 -- what the report of a call speaks of
 abbrev pub IsSubject : Option Files → List (List ℕ) → List Choice → Option Stop → Option Refusal
@@ -217,20 +222,20 @@ broken = 6 ∷ 20 ∷ []
 -- the status comes with the end of the order, faults and want of memory aside: all threads have
 -- ended, and nothing is uncaught or something is; none of those that haven't ended can take a step;
 -- one has taken as many as it may; or one would start one thread more than there may be
-pub record HasEndStatus (p : Program) (order : List Choice) (status : ℕ) : Type 0 where
+pub record HasEndStatus (j : Job) (order : List Choice) (status : ℕ) : Type 0 where
   pub last : State
-  pub leads : LeadsTo p order last
-  pub done : Exactly status 0 broken (IsEnd p last stop.Done)
-  pub uncaught : Exactly status 1 broken (IsEnd p last stop.Uncaught)
-  pub deadlock : Exactly status 9 broken (IsEnd p last stop.Deadlock)
-  pub step_limit : status ≡ 8 → (t : ℕ) × IsEnd p last (stop.StepLimit t)
-  pub threads_full : status ≡ 10 → (t : ℕ) × IsEnd p last (stop.ThreadsFull t)
+  pub leads : LeadsTo j order last
+  pub done : Exactly status 0 broken (IsEnd j last stop.Done)
+  pub uncaught : Exactly status 1 broken (IsEnd j last stop.Uncaught)
+  pub deadlock : Exactly status 9 broken (IsEnd j last stop.Deadlock)
+  pub step_limit : status ≡ 8 → (t : ℕ) × IsEnd j last (stop.StepLimit t)
+  pub threads_full : status ≡ 10 → (t : ℕ) × IsEnd j last (stop.ThreadsFull t)
 
 -- the status of a run is that of the end of its order
 abbrev pub EndsRun : List (List ℕ) → Option Files → List Choice → Option Stop → ℕ → Type 0
 EndsRun words told order None status = Unit {0}
 EndsRun words told order (Some s) status =
-    (p : Program) × Names told words (IsProgram p) × HasEndStatus p order status
+    (j : Job) × Names told words (IsJob j) × HasEndStatus j order status
 
 -- where the shelf tells its files
 abbrev pub IfTold : Option Files → (Files → Type 0) → Type 0

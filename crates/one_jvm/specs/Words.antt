@@ -1,7 +1,11 @@
 -- The words of a call.
-use Rattle.std.specs.Prelude.{◌≡◌, ℕ, ◌<◌, ◌≤◌, Bool, false, ◌==◌, codes, map, string_bytes, String, List, [], ◌∷◌, ◌++◌, length, Option, Some, None, slice_get}
-use Rattle.std.specs.List.{list_any}
+use Rattle.std.specs.Prelude.{◌≡◌, ℕ, ◌==◌, if◌then◌else◌, Bool, false, map, string_bytes, String, List, [], ◌∷◌, ◌++◌, Option, Some, None, slice_get}
+use Rattle.std.specs.Char.Escape.{encode_utf16}
+use Rattle.std.specs.Str.{chars}
 use Rattle.jvm_base.specs.Words.{from}
+use Rattle.command_words.specs.Lines.{Line, line_of}
+use Rattle.command_words.specs.declared.words.Command.{Command as Word}
+use Rattle.command_words.specs.declared.words.Command.TheVariants as word
 use Rattle.one_jvm.specs.declared.words.Command.{Command}
 use Rattle.one_jvm.specs.declared.words.Command.TheVariants.{Run, Check}
 
@@ -9,47 +13,55 @@ use Rattle.one_jvm.specs.declared.words.Command.TheVariants.{Run, Check}
 abbrev pub texts : {A : Type 0} → List (String A) → List (List ℕ)
 texts words = map string_bytes words
 
--- a `-` with more behind it begins an option, and is no file's name and no option's value
-abbrev pub is_option : List ℕ → Bool
-is_option (c ∷ d ∷ cs) = c == 45
-is_option _ = false
+-- what a line's command does; `replay` does nothing yet
+abbrev pub command_in : Word → Option Command
+command_in word.Run = Some Run
+command_in word.Check = Some Check
+command_in word.Replay = None
 
--- no word is an option
-abbrev pub ArePlain : List (List ℕ) → Type 0
-ArePlain words = list_any is_option words ≡ false
+-- the strings of some characters, with a comma between one and the next; the first one begins so,
+-- and each character is one or two units
+abbrev pub split_from : List ℕ → List ℕ → List (List ℕ)
+split_from first [] = first ∷ []
+split_from first (c ∷ cs) =
+    if c == 44 then first ∷ split_from [] cs else split_from (first ++ encode_utf16 c) cs
 
--- the word of a command
-abbrev pub command_word : Command → List ℕ
-command_word Run = codes "run"
-command_word Check = codes "check"
+-- the strings that a word gives to a program; none where there is no word
+abbrev pub strings_in : Option (List ℕ) → List (List ℕ)
+strings_in None = []
+strings_in (Some text) = split_from [] (chars text)
 
--- what the words ask for: what to do, the name of the main class, where they give it, and the files
+-- what the words ask for: what to do, the name of the main class, where they give it, the strings
+-- for `main`, how many steps each thread may take, and the files
 pub record Asked : Type 0 where
   pub command : Command
   pub main : Option (List ℕ)
+  pub args : List (List ℕ)
+  pub steps : ℕ
   pub files : List (List ℕ)
 
--- files with `--main` and its value before, among or behind them
-pub record IsMixed (main : List ℕ) (files words : List (List ℕ)) : Type 0 where
-  pub before : List (List ℕ)
-  pub after : List (List ℕ)
-  pub named : files ≡ before ++ after
-  pub value : is_option main ≡ false
-  pub spelled : words ≡ before ++ codes "--main" ∷ main ∷ after
+-- what a line asks for with this command, if any, and where it asks to show the order, or doesn't
+abbrev pub asked_with : Line → Option Command → Bool → Option Asked
+asked_with line (Some command) false = Some (record {
+  command = command;
+  main = line.main;
+  args = strings_in line.args;
+  steps = line.steps;
+  files = line.files;
+})
+asked_with line _ _ = None
 
--- the words behind the command
-abbrev pub IsSpelled : Option (List ℕ) → List (List ℕ) → List (List ℕ) → Type 0
-IsSpelled None files words = words ≡ files
-IsSpelled (Some main) files words = IsMixed main files words
+-- what a line asks for; to show the order is nothing yet
+abbrev pub asked_in : Line → Option Asked
+asked_in line = asked_with line (command_in line.command) line.shows
 
--- a command, and 1 to 1,024 files behind it, among which the option may stand
-pub record IsCall (words : List (List ℕ)) (asked : Asked) : Type 0 where
-  pub rest : List (List ℕ)
-  pub command : words ≡ command_word asked.command ∷ rest
-  pub spelled : IsSpelled asked.main asked.files rest
-  pub plain : ArePlain asked.files
-  pub some : 0 < length asked.files
-  pub few : length asked.files ≤ 1024
+-- what the words ask for, where they are a call
+abbrev pub call_of : List (List ℕ) → Option Asked
+call_of words = from None asked_in (line_of words)
+
+-- the words ask for this
+abbrev pub IsCall : List (List ℕ) → Asked → Type 0
+IsCall words asked = call_of words ≡ Some asked
 
 -- the words are some command's
 abbrev pub IsSomeCall : List (List ℕ) → Type 0

@@ -19,7 +19,7 @@ fn slashed(c: char) -> char
 }
 
 /// Adds the one or two units of a character.
-fn push_char(units: &mut Units, c: char) -> Result<(), NoMemory>
+pub(crate) fn push_char(units: &mut Units, c: char) -> Result<(), NoMemory>
     ensures { OnOk result (units.new ≡ units.old ++ encode_utf16 c) }
 {
     let mut pair = [0; 2];

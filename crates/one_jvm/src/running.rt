@@ -1,22 +1,21 @@
 //! A run of a program on the one machine.
 
-ghost use Rattle.std.specs.Prelude.{◌≡◌, ◌≤◌, [], option_map};
+ghost use Rattle.std.specs.Prelude.{◌≡◌, ◌≤◌, ℕ, List, [], length, option_map};
 ghost use Rattle.one_machine.specs.Ready.{CanRun};
 ghost use Rattle.cjvm_io.specs.Sinks.{shown};
-ghost use Rattle.one_jvm.specs.Runs.{RanTo};
+ghost use Rattle.one_jvm.specs.Runs.{RanTo, job_of};
+ghost use Rattle.one_jvm.specs.Steps.Parts.{asked_by};
 ghost use Rattle.one_jvm.specs.Steps.RunSteps.{stop_of, IsEndTold, TellsWhole};
 
 use crate::ending::ending_text;
 use crate::outcome::Stop;
+use crate::words::Request;
 use cjvm_io::{Sink, write_all};
 use machine_state::Order;
 use program_image::Image;
 use scheduler::{Run, Stop as End};
 use std::alloc::Global;
 use thiserror::Error;
-
-/// How many steps each thread may take.
-const STEP_LIMIT: u64 = 5_000_000;
 
 /// So long an order is not gone on with.
 const ORDER_LIMIT: u64 = 4_294_967_296;
@@ -97,17 +96,22 @@ fn end_run(alloc: Global, image: &Image, run: Run, stop: Stop) -> RunEnd
 }
 
 impl Turns {
+    ghost use Rattle.scheduler.specs.Running.{IsRun};
+    ghost use Rattle.one_jvm.specs.Runs.{job};
     ghost use Rattle.one_jvm.specs.Steps.RunSteps.{IsRunOf, Turned};
 
-    /// Takes steps, and writes what they printed.
+    /// Takes steps, and writes what they printed, whatever the program's arguments were.
     fn turn<O: Sink>(
         &mut self,
         alloc: Global,
         image: &Image,
         out: &mut O,
     ) -> Result<Option<Stop>, Broken>
-        requires { IsRunOf image.now self.old }
-        ensures turned { Turned image.now self.old self.new (shown O.held O.faults out.old)
+        requires run { IsRun image.now self.old.run }
+        requires written { self.old.written ≡ length self.old.run.machine.state.output }
+        ensures turned { (args : List (List ℕ)) (steps : ℕ)
+            → IsRunOf (job image.now args steps) self.old
+            → Turned (job image.now args steps) self.old self.new (shown O.held O.faults out.old)
             (shown O.held O.faults out.new) result }
         ensures later { O.faults out.old ≤ O.faults out.new }
     {
@@ -125,15 +129,21 @@ impl Turns {
     }
 }
 
-/// Runs a program to its end, and writes its output while it runs.
-pub(crate) fn run_program<O: Sink>(alloc: Global, image: &Image, out: &mut O) -> RunEnd
+/// Runs a program to its end, as it is asked, and writes its output while it runs.
+pub(crate) fn run_program<O: Sink>(
+    alloc: Global,
+    image: &Image,
+    request: &Request<'_>,
+    out: &mut O,
+) -> RunEnd
     requires { CanRun image.now }
-    ensures ran { RanTo image.now result.order (shown O.held O.faults out.old)
-        (shown O.held O.faults out.new) result.stop }
-    ensures told { TellsWhole image.now result.order result.stop result.text.items }
+    ensures ran { RanTo (job_of image.now (asked_by request.now)) result.order
+        (shown O.held O.faults out.old) (shown O.held O.faults out.new) result.stop }
+    ensures told { TellsWhole (job_of image.now (asked_by request.now)) result.order result.stop
+        result.text.items }
     ensures later { O.faults out.old ≤ O.faults out.new }
 {
-    let Ok(run) = Run::new(alloc, image, &[], STEP_LIMIT) else {
+    let Ok(run) = Run::new(alloc, image, request.strings(), request.steps()) else {
         return cut_off(alloc, Order::new(alloc), Stop::NoMemory);
     };
     let mut turns = Turns { run, written: 0 };

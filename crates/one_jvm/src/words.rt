@@ -1,17 +1,16 @@
 //! The words of a call.
 
-ghost use Rattle.std.specs.Prelude.{◌≡◌, ◌↔◌, ◌++◌, IsTrue, length, MatchOption, option_map};
-ghost use Rattle.one_jvm.specs.Words.{is_option, command_word, ArePlain, IsCall, IsNoCall, name_at, texts};
-ghost use Rattle.one_jvm.specs.Steps.Parts.{Begins, IsNoCommand, IsOption, IsNoOption, IsUnread, IsReading, asked_by};
-ghost use Rattle.one_jvm.specs.Answers.{IsNamed};
+ghost use Rattle.std.specs.Prelude.{◌≡◌, [], length, map, option_map, Some, None, IfOk, MatchResult};
+ghost use Rattle.command_words.specs.Reading.{line_of_words};
+ghost use Rattle.one_jvm.specs.Words.{command_in, split_from, strings_in, asked_in, IsCall, IsNoCall, name_at, texts};
+ghost use Rattle.one_jvm.specs.Steps.Parts.{IsMisread, IsNamedBy, asked_by};
+ghost use Rattle.std.specs.Str.{chars};
 
+use crate::main_class::push_char;
 use crate::outcome::{Refusal, place_of};
-
-/// The option that names the main class.
-const MAIN: &str = "--main";
-
-/// How many files a call may name.
-const MOST_FILES: usize = 1024;
+use command_words::{Command as Word, Words, WordsErr};
+use jvm_base::{List, NoMemory, Units};
+use std::alloc::Global;
 
 /// What a call does with its files: it runs their program, or says whether it is accepted.
 #[derive(Clone, Copy, PartialEq, Eq)]
@@ -20,14 +19,15 @@ pub(crate) enum Command {
     Check,
 }
 
-/// What the words of a call ask for: a command, files, in two parts between which the option may
-/// stand, and the main class, where they name it.
-#[derive(Clone, Copy)]
+/// What the words of a call ask for: a command, the main class, where they name it, the strings for
+/// `main`, how many steps each thread may take, and files.
+#[derive(Drop)]
 pub(crate) struct Request<'a> {
     command: Command,
-    before: &'a [String],
     main: Option<&'a str>,
-    after: &'a [String],
+    args: List<Units>,
+    steps: u32,
+    files: Vec<&'a str>,
 }
 
 impl<'a> Request<'a> {
@@ -38,136 +38,126 @@ impl<'a> Request<'a> {
         self.command
     }
 
-    /// The value of the option, where it is there.
+    /// The value of `--main`, where it is there.
     pub(crate) fn main(&self) -> Option<&'a str>
         ensures { option_map (λ m. m.now) result ≡ (asked_by self.now).main }
     {
         self.main
     }
 
+    /// The strings for `main`.
+    pub(crate) fn strings(&self) -> &[Units]
+        ensures { result.now ≡ (asked_by self.now).args }
+    {
+        self.args.as_slice()
+    }
+
+    /// How many steps each thread may take.
+    pub(crate) fn steps(&self) -> u64
+        ensures { result ≡ (asked_by self.now).steps }
+    {
+        self.steps as u64
+    }
+
     /// How many files there are.
     pub(crate) fn count(&self) -> usize
         ensures { result ≡ length (asked_by self.now).files }
     {
-        self.before.len() + self.after.len()
+        self.files.len()
     }
 
     /// The name of the file at a place, from 0; empty past the end.
     pub(crate) fn file(&self, place: usize) -> &'a str
         ensures { result.now ≡ name_at (asked_by self.now).files place }
     {
-        if place < self.before.len() {
-            return self.before[place].as_str();
-        }
-        match self.after.get(place - self.before.len()) {
-            Some(name) => name.as_str(),
+        match self.files.get(place) {
+            Some(name) => *name,
             None => "",
         }
     }
 }
 
-/// Whether a word is an option's and no file's.
-fn is_option(word: &str) -> bool
-    ensures { result ≡ is_option word.now }
+/// What a line's command does.
+fn command_in(command: Word) -> Option<Command>
+    ensures { result ≡ command_in command }
 {
-    word.len() > 1 && word.as_bytes()[0] == b'-'
+    match command {
+        Word::Run => Some(Command::Run),
+        Word::Check => Some(Command::Check),
+        Word::Replay => None,
+    }
 }
 
-/// The words before the first option, and those from it on.
-fn split(words: &[String]) -> (&[String], &[String])
-    ensures joined { result.0.now ++ result.1.now ≡ words.now }
-    ensures plain { ArePlain (texts result.0.now) }
-    ensures option { Begins (texts result.1.now) }
+/// The strings of a text, between its commas.
+fn split(alloc: Global, text: &str) -> Result<List<Units>, NoMemory>
+    ensures { IfOk result (λ strings. strings ≡ split_from [] (chars text.now)) }
 {
-    for (place, word) in words.iter().enumerate() {
-        if is_option(word.as_str()) {
-            return words.split_at(place);
+    let mut strings = List::new(alloc);
+    let mut last = Units::new(alloc);
+    for c in text.chars() {
+        if c == ',' {
+            strings.push(last)?;
+            last = Units::new(alloc);
+        } else {
+            push_char(&mut last, c)?;
         }
     }
-    (words, &[])
+    strings.push(last)?;
+    Ok(strings)
 }
 
-/// Whether no word is an option's.
-fn are_plain(words: &[String]) -> bool
-    ensures { IsTrue result ↔ ArePlain (texts words.now) }
+/// The strings that a word gives to a program.
+fn strings_in(alloc: Global, text: Option<&str>) -> Result<List<Units>, NoMemory>
+    ensures { IfOk result (λ strings. strings ≡ strings_in (option_map (λ s. s.now) text.entry)) }
 {
-    split(words).1.is_empty()
-}
-
-/// The value of the option that words begin with, and the files behind it.
-fn read_option(words: &[String]) -> Option<(&str, &[String])>
-    ensures { MatchOption result (IsNoOption (texts words.now))
-        (λ r. IsOption (texts words.now) r.0.now (texts r.1.now)) }
-{
-    let (option, behind) = words.split_first()?;
-    let (main, after) = behind.split_first()?;
-    if option.as_str() == MAIN && !is_option(main.as_str()) && are_plain(after) {
-        Some((main.as_str(), after))
-    } else {
-        None
+    match text {
+        Some(text) => split(alloc, text),
+        None => Ok(List::new(alloc)),
     }
 }
 
-/// The command of a word.
-fn read_command(word: &str) -> Option<Command>
-    ensures { MatchOption result (IsNoCommand word.now) (λ c. word.now ≡ command_word c) }
+/// What a line asks for.
+fn request_of<'a>(alloc: Global, line: Words<'a>) -> Result<Request<'a>, Refusal>
+    ensures { MatchResult result
+        (λ r. asked_in (line_of_words line.entry) ≡ Some (asked_by r))
+        (IsMisread (asked_in (line_of_words line.entry) ≡ None)) }
 {
-    if word == "run" {
-        Some(Command::Run)
-    } else if word == "check" {
-        Some(Command::Check)
-    } else {
-        None
+    let Some(command) = command_in(line.command) else {
+        return Err(Refusal::Usage);
+    };
+    if line.shows_order {
+        return Err(Refusal::Usage);
     }
-}
-
-/// What the words behind a command ask for, however many files they name.
-fn read_rest(command: Command, rest: &[String]) -> Option<Request<'_>>
-    ensures { MatchOption result (IsUnread command (texts rest.now))
-        (λ r. IsReading command (texts rest.now) (asked_by r)) }
-{
-    let (before, behind) = split(rest);
-    if behind.is_empty() {
-        return Some(Request {
-            command,
-            before,
-            main: None,
-            after: behind,
-        });
-    }
-    let (main, after) = read_option(behind)?;
-    Some(Request {
+    let Ok(args) = strings_in(alloc, line.args) else {
+        return Err(Refusal::NoMemory);
+    };
+    Ok(Request {
         command,
-        before,
-        main: Some(main),
-        after,
+        main: line.main,
+        args,
+        steps: line.steps,
+        files: line.files,
     })
 }
 
 /// What the words of a command ask for.
-pub(crate) fn read_words(words: &[String]) -> Option<Request<'_>>
-    ensures { MatchOption result (IsNoCall (texts words.now))
-        (λ r. IsCall (texts words.now) (asked_by r)) }
+pub(crate) fn read_words<'a>(alloc: Global, words: &'a [String]) -> Result<Request<'a>, Refusal>
+    ensures { MatchResult result (λ r. IsCall (texts words.entry.now) (asked_by r))
+        (IsMisread (IsNoCall (texts words.entry.now))) }
 {
-    let (command, rest) = words.split_first()?;
-    let command = read_command(command.as_str())?;
-    let request = read_rest(command, rest)?;
-    if (1..=MOST_FILES).contains(&request.count()) {
-        Some(request)
-    } else {
-        None
+    match command_words::read_words(alloc, words) {
+        Ok(line) => request_of(alloc, line),
+        Err(WordsErr::Usage) => Err(Refusal::Usage),
+        Err(WordsErr::NoMemory) => Err(Refusal::NoMemory),
     }
 }
 
 /// The name of the file that a refusal names by its place; empty where it names none.
-pub(crate) fn name_of<'a>(words: &'a [String], refusal: &Refusal) -> &'a str
-    ensures { IsNamed (texts words.now) refusal.now result.now }
+pub(crate) fn name_of<'a>(request: &Request<'a>, refusal: &Refusal) -> &'a str
+    ensures { IsNamedBy (asked_by request.now).files refusal.now result.now }
 {
-    let Some(place) = place_of(refusal) else {
-        return "";
-    };
-    match read_words(words) {
-        Some(request) => request.file(place as usize),
+    match place_of(refusal) {
+        Some(place) => request.file(place as usize),
         None => "",
     }
 }

@@ -17,43 +17,43 @@ use Rattle.one_jvm.specs.declared.running.Broken.TheVariants.{WriteFault, NoMemo
 use Rattle.one_jvm.specs.declared.running.Turns.{Turns}
 use Rattle.one_jvm.specs.Answers.{TellsEnd}
 use Rattle.one_jvm.specs.Outcomes.{ending_text}
-use Rattle.one_jvm.specs.Runs.{step_limit, LeadsTo, IsEnd}
+use Rattle.one_jvm.specs.Runs.{Job, LeadsTo, IsEnd}
 
 -- the order led to the machine, all of whose output was written
-pub record IsRunOf (p : Program) (turns : Turns) : Type 0 where
-  pub run : IsRun p turns.run
-  pub limit : turns.run.limit ≡ step_limit
-  pub leads : LeadsTo p turns.run.order turns.run.machine.state
+pub record IsRunOf (j : Job) (turns : Turns) : Type 0 where
+  pub run : IsRun j.program turns.run
+  pub limit : turns.run.limit ≡ j.steps
+  pub leads : LeadsTo j turns.run.order turns.run.machine.state
   pub written : turns.written ≡ length turns.run.machine.state.output
 
 -- steps were taken, and all that they printed was written
-pub record Writes (p : Program) (old new : Turns) (before now : Option (List ℕ)) : Type 0 where
-  pub run : IsRunOf p new
+pub record Writes (j : Job) (old new : Turns) (before now : Option (List ℕ)) : Type 0 where
+  pub run : IsRunOf j new
   pub printed : List ℕ
   pub output : new.run.machine.state.output ≡ old.run.machine.state.output ++ printed
   pub gained : Appends before now printed
 
 -- the order grew, or the run is at this end
-abbrev pub GoesTo : Program → Turns → Turns → Option Stop → Type 0
-GoesTo p old new None = length old.run.order < length new.run.order
-GoesTo p old new (Some stop) = IsEnd p new.run.machine.state stop
+abbrev pub GoesTo : Job → Turns → Turns → Option Stop → Type 0
+GoesTo j old new None = length old.run.order < length new.run.order
+GoesTo j old new (Some stop) = IsEnd j new.run.machine.state stop
 
 -- steps were taken, and a front of what they printed was written
-pub record Breaks (p : Program) (old new : Turns) (before now : Option (List ℕ)) : Type 0 where
+pub record Breaks (j : Job) (old new : Turns) (before now : Option (List ℕ)) : Type 0 where
   pub last : State
-  pub leads : LeadsTo p new.run.order last
+  pub leads : LeadsTo j new.run.order last
   pub printed : List ℕ
   pub output : last.output ≡ old.run.machine.state.output ++ printed
   pub gained : GainsFront before now printed
 
 -- what a turn of the loop leaves
-abbrev pub Turned : Program → Turns → Turns → Showing → Showing → Result (Option Stop) Broken
+abbrev pub Turned : Job → Turns → Turns → Showing → Showing → Result (Option Stop) Broken
     → Type 0
-Turned p old new before now (Ok o) =
-    Writes p old new before.held now.held × GoesTo p old new o
-Turned p old new before now (Err WriteFault) =
-    Breaks p old new before.held now.held × Rose before.faults now.faults
-Turned p old new before now (Err NoMemory) = Breaks p old new before.held now.held
+Turned j old new before now (Ok o) =
+    Writes j old new before.held now.held × GoesTo j old new o
+Turned j old new before now (Err WriteFault) =
+    Breaks j old new before.held now.held × Rose before.faults now.faults
+Turned j old new before now (Err NoMemory) = Breaks j old new before.held now.held
 
 -- the end of a run in this crate's words
 abbrev pub stop_of : End → Stop
@@ -70,7 +70,7 @@ IsEndTold p uncaught given result text =
     ⊎ ((result ≡ stop.NoMemory) × (text ≡ []))
 
 -- what a run that no fault cut off tells, and one that a fault cut off doesn't
-abbrev pub TellsWhole : Program → List Choice → Stop → List ℕ → Type 0
-TellsWhole p order stop.WriteFault text = text ≡ []
-TellsWhole p order stop.NoMemory text = text ≡ []
-TellsWhole p order s text = TellsEnd p order s text
+abbrev pub TellsWhole : Job → List Choice → Stop → List ℕ → Type 0
+TellsWhole j order stop.WriteFault text = text ≡ []
+TellsWhole j order stop.NoMemory text = text ≡ []
+TellsWhole j order s text = TellsEnd j order s text

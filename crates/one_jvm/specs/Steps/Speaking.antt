@@ -23,6 +23,11 @@ IsSilent None text = text ≡ []
 IsSilent (Some Done) text = text ≡ []
 IsSilent _ text = Unit {0}
 
+-- the name of the file that a refusal names, where there is one
+abbrev pub NamesRefused : List (List ℕ) → Option Refusal → List ℕ → Type 0
+NamesRefused words None name = Unit {0}
+NamesRefused words (Some e) name = IsNamed words e name
+
 -- such a text, or the name of the file that a refusal names
 abbrev pub Speaks : List (List ℕ) → Option Refusal → List ℕ → List ℕ → Type 0
 Speaks words None text subject = subject ≡ text

@@ -31,14 +31,14 @@ returns-clause-write_fault g c = any_write_fault (texts c.args.words.now) (g.S.S
 
 pub returns-clause-done : goal.returns-clause-done
 returns-clause-done g c = done (texts c.args.words.now) c.judge-verdict.result.stop c.judge-verdict.result.refusal c.close-refusal.result c.outcome_status.result c.outcome_status.ensures (hides _ c.judge-verdict.result.refusal _ _ c.close-refusal.result c.close-refusal.ensures.closed) c.judge-verdict.ensures.agrees
-    (silent_done c.judge-verdict.result.stop c.judge-verdict.result.text.items c.subject_of-subject.result.now c.judge-verdict.result.refusal c.close-refusal.result c.judge-verdict.ensures.silent (speaks_none (texts c.args.words.now) c.judge-verdict.result.refusal c.judge-verdict.result.text.items c.subject_of-subject.result.now (rw c.as_slice.ensures.value at c.subject_of-subject.ensures)) c.close-refusal.ensures.silent)
+    (silent_done c.judge-verdict.result.stop c.judge-verdict.result.text.items c.subject_of-subject.result.now c.judge-verdict.result.refusal c.close-refusal.result c.judge-verdict.ensures.silent (speaks_none (texts c.args.words.now) c.judge-verdict.result.refusal c.judge-verdict.result.text.items c.subject_of-subject.result.now (rw c.as_slice.ensures.value at (c.subject_of-subject.ensures (texts c.args.words.now) c.judge-verdict.ensures.named))) c.close-refusal.ensures.silent)
 
 pub returns-clause-checked : goal.returns-clause-checked
 returns-clause-checked g c = unrun (texts c.args.words.now) c.judge-verdict.result.stop c.judge-verdict.result.refusal c.judge-verdict.ensures.agrees
 
 pub returns-clause-run : goal.returns-clause-run
 returns-clause-run g c = ran_answered (texts c.args.words.now) (g.S.Shelf.files c.args.shelf.now) (shown g.O.Sink.held g.O.Sink.faults c.args.out.now) (shown g.O.Sink.held g.O.Sink.faults c.judge-verdict.new.out) c.judge-verdict.result.order c.judge-verdict.result.stop c.judge-verdict.result.refusal c.close-refusal.result
-    (silent_none c.judge-verdict.result.stop c.judge-verdict.result.text.items c.subject_of-subject.result.now c.judge-verdict.result.refusal c.close-refusal.result c.judge-verdict.ensures.silent (speaks_none (texts c.args.words.now) c.judge-verdict.result.refusal c.judge-verdict.result.text.items c.subject_of-subject.result.now (rw c.as_slice.ensures.value at c.subject_of-subject.ensures)) c.close-refusal.ensures.silent)
+    (silent_none c.judge-verdict.result.stop c.judge-verdict.result.text.items c.subject_of-subject.result.now c.judge-verdict.result.refusal c.close-refusal.result c.judge-verdict.ensures.silent (speaks_none (texts c.args.words.now) c.judge-verdict.result.refusal c.judge-verdict.result.text.items c.subject_of-subject.result.now (rw c.as_slice.ensures.value at (c.subject_of-subject.ensures (texts c.args.words.now) c.judge-verdict.ensures.named))) c.close-refusal.ensures.silent)
     (hides _ c.judge-verdict.result.refusal _ _ c.close-refusal.result c.close-refusal.ensures.closed) c.judge-verdict.ensures.run
 
 pub returns-clause-run_status : goal.returns-clause-run_status
@@ -49,7 +49,7 @@ returns-clause-no_run g c u = c.judge-verdict.ensures.no_run (unwritten_answered
 
 pub returns-clause-no_report : goal.returns-clause-no_report
 returns-clause-no_report g c e =
-    let quiet = silent_at_zero c.judge-verdict.result.stop c.judge-verdict.result.text.items c.subject_of-subject.result.now c.judge-verdict.result.refusal c.close-refusal.result c.outcome_status.result c.outcome_status.ensures (hides _ c.judge-verdict.result.refusal _ _ c.close-refusal.result c.close-refusal.ensures.closed) c.judge-verdict.ensures.silent (speaks_none (texts c.args.words.now) c.judge-verdict.result.refusal c.judge-verdict.result.text.items c.subject_of-subject.result.now (rw c.as_slice.ensures.value at c.subject_of-subject.ensures)) e in
+    let quiet = silent_at_zero c.judge-verdict.result.stop c.judge-verdict.result.text.items c.subject_of-subject.result.now c.judge-verdict.result.refusal c.close-refusal.result c.outcome_status.result c.outcome_status.ensures (hides _ c.judge-verdict.result.refusal _ _ c.close-refusal.result c.close-refusal.ensures.closed) c.judge-verdict.ensures.silent (speaks_none (texts c.args.words.now) c.judge-verdict.result.refusal c.judge-verdict.result.text.items c.subject_of-subject.result.now (rw c.as_slice.ensures.value at (c.subject_of-subject.ensures (texts c.args.words.now) c.judge-verdict.ensures.named))) e in
     c.close-refusal.ensures.no_report quiet.0 quiet.1
 
 pub returns-clause-report : goal.returns-clause-report
@@ -58,6 +58,6 @@ returns-clause-report g c = record {
   subject = c.subject_of-subject.result.now;
   cause = c.judge-verdict.ensures.cause;
   agrees = c.judge-verdict.ensures.agrees;
-  spoken = subject (g.S.Shelf.files c.args.shelf.now) (texts c.args.words.now) c.judge-verdict.result.order c.judge-verdict.result.stop c.judge-verdict.result.refusal c.judge-verdict.result.text.items c.subject_of-subject.result.now c.judge-verdict.ensures.tells (rw c.as_slice.ensures.value at c.subject_of-subject.ensures);
+  spoken = subject (g.S.Shelf.files c.args.shelf.now) (texts c.args.words.now) c.judge-verdict.result.order c.judge-verdict.result.stop c.judge-verdict.result.refusal c.judge-verdict.result.text.items c.subject_of-subject.result.now c.judge-verdict.ensures.tells (rw c.as_slice.ensures.value at (c.subject_of-subject.ensures (texts c.args.words.now) c.judge-verdict.ensures.named));
   closed = c.close-refusal.ensures.closed;
 }

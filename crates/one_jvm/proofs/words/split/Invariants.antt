@@ -1,6 +1,7 @@
-use Rattle.std.proofs.Common.{take}
-use Rattle.one_jvm.specs.Words.{ArePlain, texts}
+use Rattle.std.proofs.Common.{◌≡◌, ℕ, List, [], ◌++◌}
+use Rattle.one_jvm.specs.Words.{split_from}
 use Rattle.one_jvm.proofs.words.split.Given as goal
 
-abbrev pub invariant-loop-place : goal.invariant-loop-place
-invariant-loop-place l = ArePlain (texts (take l.place l.words))
+-- whatever comes behind the characters so far
+abbrev pub invariant-loop-c : goal.invariant-loop-c
+invariant-loop-c l = (rest : List ℕ) → l.strings ++ split_from l.last rest ≡ split_from [] (l.yielded ++ rest)
