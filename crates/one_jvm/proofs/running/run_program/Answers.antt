@@ -1,4 +1,4 @@
-use Rattle.std.proofs.Common.{[], ap, ◌∙◌}
+use Rattle.std.proofs.Common.{ℕ, ◌-◌, ◌<◌, [], length, ap, subst, ◌∙◌, arith}
 use Rattle.cjvm_io.specs.Sinks.{shown}
 use Rattle.machine_state.specs.Start.{start}
 use Rattle.one_jvm.specs.Runs.{job_of}
@@ -45,3 +45,17 @@ returns-clause-ran g c =
     let now = shown g.O.Sink.held g.O.Sink.faults c.turns.out in
     cut_ran (job_of c.args.image.now (asked_by c.args.request.now)) c.turns.turns.run.order c.cut_off-2.result.order NoMemory c.cut_off-2.result.stop before now (c.cut_off-2.ensures.order ∙ c.into_order-2.ensures) c.cut_off-2.ensures.stop
     (part (job_of c.args.image.now (asked_by c.args.request.now)) c.turns.turns _ _ _ _ c.turns.invariant)
+
+-- a longer order is nearer to its limit
+shorter : (n m : ℕ) → n < m → n < 4294967296 → 4294967296 - m < 4294967296 - n
+shorter n m h k = omega (arith, h, k)
+
+pub turns-preserved : goal.turns-preserved
+turns-preserved g c =
+    let t = rw c.in-Ok-None.field-0-is at (c.in-Ok-None.ensures.turned (asked_by c.args.request.now).args (asked_by c.args.request.now).steps c.turns.invariant.run) in
+    turned (job_of c.args.image.now (asked_by c.args.request.now)) c.turns.turns c.turn.new.self _ _ _ _ _ _ c.turns.invariant t.0 c.in-Ok-None.ensures.later
+
+pub turns-smaller : goal.turns-smaller
+turns-smaller g c =
+    let t = rw c.in-Ok-None.field-0-is at (c.in-Ok-None.ensures.turned (asked_by c.args.request.now).args (asked_by c.args.request.now).steps c.turns.invariant.run) in
+    shorter (length c.turns.turns.run.order) (length c.turn.new.self.run.order) t.1 (subst (λ (n : ℕ). n < 4294967296) (c.len.ensures ∙ ap length c.order.ensures) c.turns-test.true)
