@@ -4,12 +4,26 @@
 """
 
 import pathlib
+import re
 import subprocess
 import sys
 import tempfile
 
 TOP = pathlib.Path(__file__).resolve().parent.parent
 WIDTH = 92
+
+# casts to byte, char and short right before the stores that cut by themselves: bastore, castore, sastore,
+# putstatic, putfield
+CUT_STORES = re.compile(b"[\x91\x92\x93](?=[\x54\x55\x56\xb3\xb5])")
+# the files whose casts are taken out, and how many each has
+WITHOUT_CASTS = {"Stores": 7}
+
+
+def without_casts(name, data):
+    """The class file with nop in place of such casts."""
+    data, count = CUT_STORES.subn(b"\x00", data)
+    assert count == WITHOUT_CASTS[name], (name, count)
+    return data
 
 
 def pieces(data):
@@ -37,6 +51,9 @@ def main():
         text = ["//! Class files of the programs in examples/rows, written by tools/program_rows.py."]
         for path in sorted(pathlib.Path(folder).glob("*.class")):
             data = path.read_bytes()
+            if path.stem in WITHOUT_CASTS:
+                data = without_casts(path.stem, data)
+                path.write_bytes(data)
             name = path.stem.replace("$", "_").upper()
             lines = list(pieces(data))
             text.append("")

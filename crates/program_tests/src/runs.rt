@@ -50,10 +50,16 @@ fn run(alloc: Global, files: &[(&str, &[u8])]) -> Result<Left, Fail> {
 #[test]
 fn runs_programs(rt: HostRuntime) -> Result<(), Fail> {
     let alloc = rt.alloc();
-    let rows: [Row<'_>; 15] = [
+    let rows: [Row<'_>; 16] = [
         Row {
             files: &[("Edges.class", EDGES.as_slice())],
             out: b"-2147483648\n0\n-56\n",
+            err: b"",
+            status: 0,
+        },
+        Row {
+            files: &[("Stores.class", STORES.as_slice())],
+            out: b"-56\n65533\n-31072\n-128\n65\n32767\n-1\n",
             err: b"",
             status: 0,
         },
