@@ -1,0 +1,4 @@
+mod PlanLaws
+mod DeedLaws
+pub mod NameLaws
+mod ThreadLaws
