@@ -1,5 +1,6 @@
 -- Which threads can take a step.
-use Rattle.std.proofs.Common.{◌≡◌, ℕ, zero, suc, ◌+◌, Bool, true, false, ◌||◌, List, [], ◌∷◌, Option, Some, None, refl, sym, ap, subst, ◌∙◌, arith}
+use Rattle.std.proofs.lemmas.Bool.{cases_lt}
+use Rattle.std.proofs.Common.{◌≡◌, ◌≤◌, ◌<◌, ◌⊎◌, inl, inr, ℕ, zero, suc, ◌+◌, Bool, true, false, ◌||◌, List, [], ◌∷◌, Option, Some, None, refl, sym, ap, subst, ◌∙◌, arith}
 use Rattle.std.specs.Prelude.{not, drop, slice_get, is_some, is_none}
 use Rattle.jvm_base.specs.Words.{from}
 use Rattle.program_image.specs.Program.{Program}
@@ -13,7 +14,7 @@ use Rattle.machine_state.specs.Step.{Taken, attempt}
 use Rattle.step_serve.specs.Cells.{wish_thread}
 use Rattle.step_attempt.specs.Going.{IsAttempt}
 use Rattle.step_attempt.specs.declared.going.Going.{Going}
-use Rattle.one_machine.specs.Ready.{able}
+use Rattle.one_machine.specs.Ready.{able, AreUnable, IsFirst}
 
 module _ (p : Program) (m : State) where
   -- what is told of some step of a thread tells whether it can step
@@ -37,6 +38,23 @@ module _ (p : Program) (m : State) where
   passed n x e h =
       let next : n + 1 ≡ suc n = omega arith in
       ap (λ (k : ℕ). some_can p m (n + 1) (drop k m.threads)) next ∙ (sym (step_on m.threads n n e) ∙ h)
+
+  -- no thread lies between a number and itself
+  pub first_here : (n : ℕ) → IsFirst p m n n
+  first_here n = (omega arith, λ u l h. absurd (omega (arith, l, h)))
+
+  -- a thread that can't step is behind those before it
+  pub first_further : (first n : ℕ) → IsFirst p m first n → able p m n (slice_get m.threads n) ≡ false → IsFirst p m first (n + 1)
+  first_further first n is e = (omega (arith, is.0), unable)
+    where
+      by_place : (u : ℕ) → first ≤ u → u < n + 1 → (u < n) ⊎ (n ≤ u) → able p m u (slice_get m.threads u) ≡ false
+      by_place u l h (inl lt) = is.1 u l lt
+      by_place u l h (inr ge) =
+          let same : n ≡ u = omega (arith, h, ge) in
+          subst (λ (k : ℕ). able p m k (slice_get m.threads k) ≡ false) same e
+
+      unable : AreUnable p m first (n + 1)
+      unable u l h = by_place u l h (cases_lt u n)
 
   -- a thread that can step is there
   pub there : (t : ℕ) (o : Option ThreadState) → able p m t o ≡ true → (th : ThreadState) × (o ≡ Some th) × (can_step p m t th ≡ true)

@@ -1,5 +1,5 @@
 -- A machine, and what it has of its program.
-use Rattle.std.specs.Prelude.{◌≡◌, ℕ, Bool, true, false, List, Option, Some, None, drop, slice_get}
+use Rattle.std.specs.Prelude.{◌≡◌, ◌≤◌, ◌<◌, ◌⊎◌, ℕ, Bool, true, false, List, Option, Some, None, drop, slice_get}
 use Rattle.jvm_base.specs.Words.{from}
 use Rattle.jvm_base.specs.declared.value.Value.{Value}
 use Rattle.program_image.specs.Program.{Program}
@@ -48,3 +48,20 @@ abbrev pub IsAble : Program → State → ℕ → Option ℕ → Type 0
 IsAble p m first None = some_can p m first (drop first m.threads) ≡ false
 IsAble p m first (Some t) =
     (th : ThreadState) × (slice_get m.threads t ≡ Some th) × (can_step p m t th ≡ true)
+
+-- none of the threads from one number up to another can step
+abbrev pub AreUnable : Program → State → ℕ → ℕ → Type 0
+AreUnable p m first end =
+    (u : ℕ) → first ≤ u → u < end → able p m u (slice_get m.threads u) ≡ false
+
+-- of the threads from a number on that can step, this is the first
+abbrev pub IsFirst : Program → State → ℕ → ℕ → Type 0
+IsFirst p m first t = (first ≤ t) × AreUnable p m first t
+
+-- of those that can step it is the first from a number on, or, where all of them lie before that, the
+-- first of all
+abbrev pub IsNext : Program → State → ℕ → Option ℕ → Type 0
+IsNext p m first None = Unit {0}
+IsNext p m first (Some t) =
+    IsFirst p m first t
+    ⊎ ((some_can p m first (drop first m.threads) ≡ false) × IsFirst p m 0 t)

@@ -1,10 +1,10 @@
 //! Which threads can take a step.
 
-ghost use Rattle.std.specs.Prelude.{◌≡◌, is_some, slice_get, IfOk};
+ghost use Rattle.std.specs.Prelude.{◌≡◌, is_some, slice_get, IfOk, IfSome};
 ghost use Rattle.machine_state.specs.declared.served.Wish.TheVariants.{Exactly};
 ghost use Rattle.machine_state.specs.Runs.{any_choice};
 ghost use Rattle.step_attempt.specs.Going.{state_at};
-ghost use Rattle.one_machine.specs.Ready.{able, IsAble, IsReady, machine_at};
+ghost use Rattle.one_machine.specs.Ready.{able, IsAble, IsFirst, IsNext, IsReady, machine_at};
 
 use crate::taking::thread_at;
 use jvm_base::{Name, NoMemory};
@@ -57,7 +57,8 @@ fn can_step(alloc: Global, site: &Site<'_>, thread: u32) -> Result<bool, NoMemor
 /// would be want of memory.
 fn first_able(alloc: Global, site: &Site<'_>, from: u32) -> Result<Option<u32>, NoMemory>
     requires { IsReady site.now.image.now (machine_at site.now) }
-    ensures { IfOk result (IsAble site.now.image.now (state_at site.now) from) }
+    ensures able { IfOk result (IsAble site.now.image.now (state_at site.now) from) }
+    ensures first { IfOk result (λ o. IfSome o (IsFirst site.now.image.now (state_at site.now) from)) }
 {
     for at in from as usize..site.threads.len() {
         let Ok(thread) = u32::try_from(at) else {
@@ -73,7 +74,8 @@ fn first_able(alloc: Global, site: &Site<'_>, from: u32) -> Result<Option<u32>, 
 /// A thread that can take a step: the first from a number on, or else the first of all.
 pub(crate) fn next_able(alloc: Global, site: &Site<'_>, from: u32) -> Result<Option<u32>, NoMemory>
     requires { IsReady site.now.image.now (machine_at site.now) }
-    ensures { IfOk result (IsAble site.now.image.now (state_at site.now) 0) }
+    ensures able { IfOk result (IsAble site.now.image.now (state_at site.now) 0) }
+    ensures next { IfOk result (IsNext site.now.image.now (state_at site.now) from) }
 {
     match first_able(alloc, site, from)? {
         Some(thread) => Ok(Some(thread)),

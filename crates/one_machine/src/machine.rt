@@ -13,7 +13,7 @@ ghost use Rattle.shared_state.specs.First.{IsOpening};
 ghost use Rattle.shared_state.specs.Parts.{thread_state};
 ghost use Rattle.step_serve.specs.Blank.{AreBlanks};
 ghost use Rattle.one_machine.specs.Going.{IsWent, IsReason};
-ghost use Rattle.one_machine.specs.Ready.{CanRun, IsAble, IsReady, machine_at};
+ghost use Rattle.one_machine.specs.Ready.{CanRun, IsAble, IsNext, IsReady, machine_at};
 ghost use Rattle.step_attempt.specs.Going.{state_at};
 
 use crate::able::{any_step, next_able};
@@ -204,7 +204,8 @@ impl Machine {
         from: u32,
     ) -> Result<Option<u32>, NoMemory>
         requires { IsReady image.now self.now }
-        ensures { IfOk result (IsAble image.now self.now.state 0) }
+        ensures able { IfOk result (IsAble image.now self.now.state 0) }
+        ensures next { IfOk result (IsNext image.now self.now.state from) }
     {
         next_able(alloc, &self.site(image), from)
     }

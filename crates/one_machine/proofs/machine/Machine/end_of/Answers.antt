@@ -15,7 +15,7 @@ pub returns-in-Some : goal.returns-in-Some
 unfolding end_of
 returns-in-Some c =
     let m = c.args.self.now.state in
-    let one = subst (λ (o : Option ℕ). IsAble c.args.image.now m 0 o) c.in-Some.is c.in_ok-next_able.ensures in
+    let one = subst (λ (o : Option ℕ). IsAble c.args.image.now m 0 o) c.in-Some.is c.in_ok-next_able.ensures.able in
     sym (ap (λ b. if b then AllEnded else (if some_can c.args.image.now m 0 m.threads then Going else Dead)) (sym c.all_ended.ensures ∙ c.if-all_ended.false)
     ∙ ap (λ b. if b then Going else Dead) (some_of c.args.image.now m c.in-Some.field-0 one.0 one.1 one.2))
 
@@ -24,4 +24,4 @@ unfolding end_of
 returns-in-None c =
     let m = c.args.self.now.state in
     sym (ap (λ b. if b then AllEnded else (if some_can c.args.image.now m 0 m.threads then Going else Dead)) (sym c.all_ended.ensures ∙ c.if-all_ended.false)
-    ∙ ap (λ b. if b then Going else Dead) (subst (λ (o : Option ℕ). IsAble c.args.image.now m 0 o) c.in-None.is c.in_ok-next_able.ensures))
+    ∙ ap (λ b. if b then Going else Dead) (subst (λ (o : Option ℕ). IsAble c.args.image.now m 0 o) c.in-None.is c.in_ok-next_able.ensures.able))
