@@ -5,6 +5,7 @@ pub mod Counted
 pub mod ClosedNames
 pub mod ArrayLaws
 pub mod LiteralLaws
+pub mod MarkLaws
 pub mod ElemLaws
 pub mod Examples
 pub mod BootLaws

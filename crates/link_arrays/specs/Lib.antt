@@ -3,3 +3,4 @@ pub mod Arrays
 pub mod ArrayClasses
 pub mod Counting
 pub mod Literals
+pub mod Marks

@@ -1,16 +1,18 @@
 //! The array types of a program.
 
-ghost use Rattle.std.specs.Prelude.{◌≡◌, ◌+◌, ◌≤◌, ◌<◌, [], ◌∷◌, length, map, not, option_map, position, IfOk, OnOk, IfSome};
+ghost use Rattle.std.specs.Prelude.{◌≡◌, ◌+◌, ◌≤◌, ◌<◌, [], ◌∷◌, length, map, not, option_map, position, Some, IfOk, OnOk, IfSome};
 ghost use Rattle.std.specs.List.{flat_map};
 ghost use Rattle.jvm_base.specs.Told.{Gives, itself};
 ghost use Rattle.class_names.specs.Classes.{codes_of};
 ghost use Rattle.numbering.specs.Seen.{is_seen, with_item};
 ghost use Rattle.program_image.specs.Signatures.{same_desc};
 ghost use Rattle.link_arrays.specs.Arrays.{array, with_parts, op_types, code_types, file_types, strings, with_types};
+ghost use Rattle.link_arrays.specs.Marks.{key_of, AreAdded};
 ghost use Rattle.link_arrays.specs.Counting.{counted, arrays_of, told, Adds, AreClosed, AreSoFar};
 
 use crate::elem::copy_elem;
 use crate::error::ArraysErr;
+use crate::marks::{Key, Keys, key_of};
 use crate::named::op_array;
 use class_format::ClassFile;
 use code_table::{Code, Op, Placed};
@@ -95,7 +97,7 @@ impl Arrays {
     }
 
     /// Adds the types that an instruction names.
-    fn add_op(
+    fn add_named(
         &mut self,
         alloc: Global,
         declared: usize,
@@ -111,22 +113,71 @@ impl Arrays {
         self.count(declared)
     }
 
+    /// Adds the types that an instruction names by a key, where the key is new.
+    #[tactic(auto, using(crate::proofs::MarkLaws::has_added, crate::proofs::MarkLaws::more_added))]
+    fn add_key(
+        &mut self,
+        alloc: Global,
+        declared: usize,
+        keys: &mut Keys,
+        pool: &[PoolItem],
+        op: &Op,
+        key: Key,
+    ) -> Result<(), ArraysErr>
+        requires so_far { AreSoFar declared self.old }
+        requires added { AreAdded pool.now keys.old self.old }
+        requires key { key_of pool.now op.now ≡ Some key }
+        ensures types { Adds declared self.old (op_types pool.now op.now) result self.new }
+        ensures added { OnOk result (AreAdded pool.now keys.new self.new) }
+    {
+        if keys.has(key) {
+            return Ok(());
+        }
+        self.add_named(alloc, declared, pool, op)?;
+        keys.add(key);
+        Ok(())
+    }
+
+    /// Adds the types that an instruction names, of which those of some keys are there.
+    #[tactic(auto, using(crate::proofs::MarkLaws::stay_added))]
+    fn add_op(
+        &mut self,
+        alloc: Global,
+        declared: usize,
+        keys: &mut Keys,
+        pool: &[PoolItem],
+        op: &Op,
+    ) -> Result<(), ArraysErr>
+        requires so_far { AreSoFar declared self.old }
+        requires added { AreAdded pool.now keys.old self.old }
+        ensures types { Adds declared self.old (op_types pool.now op.now) result self.new }
+        ensures added { OnOk result (AreAdded pool.now keys.new self.new) }
+    {
+        match key_of(pool, op) {
+            Some(key) => self.add_key(alloc, declared, keys, pool, op, key),
+            None => self.add_named(alloc, declared, pool, op),
+        }
+    }
+
     /// Adds the types that some instructions name.
     #[tactic(auto, using(crate::proofs::Counted::types_break, crate::proofs::Counted::counted_few))]
     fn add_ops(
         &mut self,
         alloc: Global,
         declared: usize,
+        keys: &mut Keys,
         pool: &[PoolItem],
         ops: &[Placed],
     ) -> Result<(), ArraysErr>
-        requires { AreSoFar declared self.old }
+        requires so_far { AreSoFar declared self.old }
+        requires added { AreAdded pool.now keys.old self.old }
         ensures types { Adds declared self.old (flat_map (λ p. op_types pool.now p.op) ops.now) result
             self.new }
         ensures so_far { OnOk result (AreSoFar declared self.new) }
+        ensures added { OnOk result (AreAdded pool.now keys.new self.new) }
     {
         for placed in ops {
-            self.add_op(alloc, declared, pool, &placed.op)?;
+            self.add_op(alloc, declared, keys, pool, &placed.op)?;
         }
         Ok(())
     }
@@ -136,14 +187,17 @@ impl Arrays {
         &mut self,
         alloc: Global,
         declared: usize,
+        keys: &mut Keys,
         pool: &[PoolItem],
         code: &Option<Code>,
     ) -> Result<(), ArraysErr>
-        requires { AreSoFar declared self.old }
+        requires so_far { AreSoFar declared self.old }
+        requires added { AreAdded pool.now keys.old self.old }
         ensures types { Adds declared self.old (code_types pool.now code.now) result self.new }
         ensures so_far { OnOk result (AreSoFar declared self.new) }
+        ensures added { OnOk result (AreAdded pool.now keys.new self.new) }
     {
-        self.add_ops(alloc, declared, pool, ops(code))
+        self.add_ops(alloc, declared, keys, pool, ops(code))
     }
 
     #[tactic(auto, using(crate::proofs::Counted::types_break, crate::proofs::Counted::counted_few))]
@@ -151,20 +205,23 @@ impl Arrays {
         &mut self,
         alloc: Global,
         declared: usize,
+        keys: &mut Keys,
         pool: &[PoolItem],
         codes: &[Option<Code>],
     ) -> Result<(), ArraysErr>
-        requires { AreSoFar declared self.old }
+        requires so_far { AreSoFar declared self.old }
+        requires added { AreAdded pool.now keys.old self.old }
         ensures types { Adds declared self.old (flat_map (code_types pool.now) codes.now) result self.new }
         ensures so_far { OnOk result (AreSoFar declared self.new) }
     {
         for code in codes {
-            self.add_code(alloc, declared, pool, code)?;
+            self.add_code(alloc, declared, keys, pool, code)?;
         }
         Ok(())
     }
 
     /// Adds the types that a file's code names.
+    #[tactic(auto, using(crate::proofs::MarkLaws::none_added))]
     fn add_file(
         &mut self,
         alloc: Global,
@@ -177,7 +234,9 @@ impl Arrays {
         ensures types { Adds declared self.old (file_types file.now) result self.new }
         ensures so_far { OnOk result (AreSoFar declared self.new) }
     {
-        self.add_codes(alloc, declared, file.pool.as_slice(), codes)
+        let pool = file.pool.as_slice();
+        let mut keys = Keys::new(alloc, pool)?;
+        self.add_codes(alloc, declared, &mut keys, pool, codes)
     }
 
     /// Adds the types that the files' code names.

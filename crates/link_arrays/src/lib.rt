@@ -7,6 +7,7 @@ mod desc_text;
 mod elem;
 mod error;
 mod literals;
+mod marks;
 mod named;
 
 pub use array_class::{array_classes, class_number};
