@@ -17,7 +17,7 @@ use Rattle.class_format.specs.declared.class.ClassFile.{ClassFile}
 use Rattle.class_format.specs.declared.member_kind.MemberKind.{MemberKind}
 use Rattle.class_format.specs.declared.member_kind.MemberKind.TheVariants.{Field, Method}
 use Rattle.class_names.specs.Known.{is_name, is_known, add_name, add_names}
-use Rattle.link_uses.specs.Owned.{Signature, Key, field_signature, method_signature, place_at, signatures, signatures_at, signature_texts, member_texts, class_texts, has_sign, has_key, AreSeen, ArePlaces}
+use Rattle.link_uses.specs.Owned.{Signature, Key, field_signature, method_signature, place_at, signatures, signatures_at, signature_texts, member_texts, class_texts, member_names, has_sign, has_key, AreSeen, ArePlaces}
 
 -- ---- texts
 
@@ -89,7 +89,8 @@ seen_kind names Field g h = seen_from names (field_signature g) g.fields (known_
 seen_kind names Method g h = seen_from names (method_signature g) g.methods (known_parts names (member_texts Field g) (member_texts Method g) h).1
 
 -- where the texts of all classes were added all members were seen
-pub all_seen : (names : List (List ℕ)) (all : List ClassFile) → names ≡ add_names [] (flat_map class_texts all) → (kind : MemberKind) (k : ℕ) → AreSeen names (signatures_at all kind k)
+pub all_seen : (names : List (List ℕ)) (all : List ClassFile) → names ≡ member_names all → (kind : MemberKind) (k : ℕ) → AreSeen names (signatures_at all kind k)
+unfolding member_names
 all_seen names all e kind k = by (slice_get all k) refl
   where
     known : AreKnown names (flat_map class_texts all)

@@ -1,17 +1,21 @@
 -- The members that the classes of a program declare, by class and by the numbers of texts.
-use Rattle.std.specs.Prelude.{◌≡◌, ℕ, Bool, true, false, ◌&&◌, nat_eq, List, [], ◌∷◌, ◌++◌, map, Option, position, slice_get, option_map, option_and_then}
+use Rattle.std.specs.Prelude.{◌≡◌, ℕ, Bool, true, false, ◌&&◌, nat_eq, List, [], ◌∷◌, ◌++◌, map, Option, position, slice_get, option_map, option_and_then, if◌then◌else◌}
 use Rattle.std.specs.List.{flat_map, AllByRecursion}
 use Rattle.std.specs.declared.cmp.Ordering.{Ordering}
 use Rattle.std.specs.Ordering.{ordering_then, nat_cmp}
 use Rattle.jvm_base.specs.Maps.{find}
 use Rattle.jvm_base.specs.Words.{from}
+use Rattle.hierarchy.specs.Hierarchy.{row_of}
+use Rattle.hierarchy.specs.Walks.{first_some, or_else}
 use Rattle.class_format.specs.declared.class.ClassFile.{ClassFile}
 use Rattle.class_format.specs.declared.class.FieldItem.{FieldItem}
 use Rattle.class_format.specs.declared.class.MethodItem.{MethodItem}
 use Rattle.class_format.specs.declared.member_kind.MemberKind.{MemberKind}
 use Rattle.class_format.specs.declared.member_kind.MemberKind.TheVariants.{Field, Method}
-use Rattle.class_names.specs.Known.{is_name, is_known}
+use Rattle.class_format.specs.Flags.{is_interface}
+use Rattle.class_names.specs.Known.{is_name, is_known, add_names}
 use Rattle.class_names.specs.Texts.{Member, text_in}
+use Rattle.link_rules.specs.Numbers.{flags_at}
 use Rattle.link_uses.specs.declared.lookup.Found.{Found}
 use Rattle.link_uses.specs.declared.owned.Owned.{Owned}
 
@@ -62,6 +66,10 @@ member_texts Method g = flat_map (λ x. signature_texts (method_signature g x)) 
 abbrev pub class_texts : ClassFile → List (List ℕ)
 class_texts g = member_texts Field g ++ member_texts Method g
 
+-- the texts of all members, each once: a text's number is its place
+unfoldable pub member_names : List ClassFile → List (List ℕ)
+member_names all = add_names [] (flat_map class_texts all)
+
 -- the text has the number
 abbrev pub has_number : List (List ℕ) → List ℕ → ℕ → Bool
 has_number names text n = from false (λ k. nat_eq k n) (position (is_name text) names)
@@ -74,9 +82,17 @@ has_sign names sign s = has_number names s.0 sign.0 && has_number names s.1 sign
 abbrev pub has_key : List (List ℕ) → ℕ → Key → Signature → Bool
 has_key names class key s = nat_eq class key.0 && has_sign names key.1 s
 
+-- the number of a text, where it was seen
+abbrev pub name_number : List (List ℕ) → List ℕ → Option ℕ
+name_number names text = position (is_name text) names
+
+-- both numbers, where there are both
+abbrev pub signed : Option ℕ → Option ℕ → Option Sign
+signed name desc = option_and_then (λ n. option_map (λ d. (n, d)) desc) name
+
 -- the numbers of a member's name and descriptor, where both were seen
 abbrev pub sign_of : List (List ℕ) → Member → Option Sign
-sign_of names m = option_and_then (λ n. option_map (λ d. (n, d)) (position (is_name m.desc) names)) (position (is_name m.name) names)
+sign_of names m = signed (name_number names m.name) (name_number names m.desc)
 
 -- name and descriptor were seen
 abbrev pub AreSeen : List (List ℕ) → List Signature → Type 0
@@ -88,6 +104,7 @@ pub record ArePlaces (all : List ClassFile) (names : List (List ℕ)) (kind : Me
 
 -- what is kept of a program's members is right
 pub record IsOwned (all : List ClassFile) (owned : Owned) : Type 0 where
+  pub names : owned.names ≡ member_names all
   pub seen : (kind : MemberKind) (k : ℕ) → AreSeen owned.names (signatures_at all kind k)
   pub fields : ArePlaces all owned.names Field owned.fields.entries
   pub methods : ArePlaces all owned.names Method owned.methods.entries
@@ -95,3 +112,24 @@ pub record IsOwned (all : List ClassFile) (owned : Owned) : Type 0 where
 -- the member of a class and a sign
 unfoldable pub found_at : List (Key × ℕ) → Sign → ℕ → Option Found
 found_at entries sign k = option_map (λ i. record { class = k; place = i }) (place_at entries (k, sign))
+
+-- ---- the first member of a sign along the walks that tables have from a class on
+
+-- a field: along the walk over what lies above, interfaces before the superclass
+abbrev pub signed_field : List (Key × ℕ) → List (List ℕ) → Option Sign → ℕ → Option Found
+signed_field entries fields sign c = option_and_then (λ s. first_some (found_at entries s) (row_of fields c)) sign
+
+-- a method of a class: along its superclasses, then along the interfaces of each
+abbrev pub signed_class_method : List (Key × ℕ) → List (List ℕ) → List (List ℕ) → Option Sign → ℕ → Option Found
+signed_class_method entries supers interfaces sign c =
+    option_and_then (λ s. or_else (first_some (found_at entries s) (row_of supers c)) (first_some (λ k. first_some (found_at entries s) (row_of interfaces k)) (row_of supers c))) sign
+
+-- a method of an interface: along its superinterfaces, then in Object
+abbrev pub signed_interface_method : List (Key × ℕ) → List (List ℕ) → Option Sign → ℕ → Option Found
+signed_interface_method entries interfaces sign c =
+    option_and_then (λ s. or_else (first_some (found_at entries s) (row_of interfaces c)) (found_at entries s 0)) sign
+
+-- a method of a class or an interface
+abbrev pub signed_method : List ClassFile → List (Key × ℕ) → List (List ℕ) → List (List ℕ) → Option Sign → ℕ → Option Found
+signed_method all entries supers interfaces sign c =
+    if is_interface (flags_at all c) then signed_interface_method entries interfaces sign c else signed_class_method entries supers interfaces sign c

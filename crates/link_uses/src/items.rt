@@ -4,8 +4,10 @@ ghost use Rattle.std.specs.Prelude.{◌≡◌, slice_get, IfOk};
 ghost use Rattle.class_names.specs.Texts.{member_in};
 ghost use Rattle.link_uses.specs.Items.{found_at_index, AreItems, is_field_item, is_method_item};
 ghost use Rattle.link_uses.specs.Lookups.{found_field, found_method};
+ghost use Rattle.link_uses.specs.TextNumbers.{AreNumbers};
 
 use crate::lookup::{Found, Resolver};
+use crate::text_numbers::TextNumbers;
 use class_format::ClassFile;
 use class_names::member;
 use jvm_base::{List, NoMemory, PoolItem};
@@ -13,20 +15,20 @@ use std::alloc::Global;
 
 /// The member that the item at an index leads to.
 #[tactic(auto, unfolding(crate::specs::Items::found_at_index))]
-fn find(resolver: &Resolver, pool: &[PoolItem], index: u16) -> Option<Found>
+fn find(resolver: &Resolver, numbers: &TextNumbers, pool: &[PoolItem], index: u16) -> Option<Found>
+    requires { AreNumbers resolver.now pool.now numbers.now }
     ensures { result ≡ found_at_index resolver.now pool.now index }
 {
     match pool.get(index as usize) {
-        Some(PoolItem::Field { .. }) => resolver.field(&member(pool, index)),
-        Some(PoolItem::Method { .. } | PoolItem::InterfaceMethod { .. }) => {
-            resolver.method(&member(pool, index))
-        }
+        Some(PoolItem::Field { class, pair }) => resolver.item_field(numbers, pool, *class, *pair),
+        Some(PoolItem::Method { class, pair } | PoolItem::InterfaceMethod { class, pair }) =>
+            resolver.item_method(numbers, pool, *class, *pair),
         _ => None,
     }
 }
 
 /// The members that the items of a file lead to, by index.
-pub(crate) fn file_items(
+pub fn file_items(
     alloc: Global,
     resolver: &Resolver,
     file: &ClassFile,
@@ -34,10 +36,11 @@ pub(crate) fn file_items(
     ensures { IfOk result (λ found. AreItems resolver.now file.now.pool found) }
 {
     let pool = file.pool.as_slice();
+    let numbers = resolver.text_numbers(alloc, pool)?;
     let mut found = List::new(alloc);
     let count = pool.len().min(u16::MAX as usize) as u16;
     for index in 0..count {
-        found.push(find(resolver, pool, index))?;
+        found.push(find(resolver, &numbers, pool, index))?;
     }
     Ok(found)
 }
@@ -57,8 +60,8 @@ fn is_method(pool: &[PoolItem], item: u16) -> bool
     )
 }
 
-/// The field that the item at an index names.
-pub(crate) fn field_at(
+/// The field that the item at an index names, of whose file this was found.
+pub fn field_at(
     resolver: &Resolver,
     pool: &[PoolItem],
     found: &[Option<Found>],
@@ -73,8 +76,8 @@ pub(crate) fn field_at(
     }
 }
 
-/// The method that the item at an index names.
-pub(crate) fn method_at(
+/// The method that the item at an index names, of whose file this was found.
+pub fn method_at(
     resolver: &Resolver,
     pool: &[PoolItem],
     found: &[Option<Found>],

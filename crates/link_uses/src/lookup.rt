@@ -1,19 +1,22 @@
 //! Looking fields and methods up.
 
-ghost use Rattle.std.specs.Prelude.{◌≡◌, ◌<◌, ◌^◌, ◌==◌, ◌&&◌, not, length, IfOk};
+ghost use Rattle.std.specs.Prelude.{◌≡◌, ◌<◌, ◌^◌, ◌==◌, ◌&&◌, not, length, slice_get, IfOk};
 ghost use Rattle.std.specs.List.{list_any};
 ghost use Rattle.class_names.specs.Seen.{seen_member};
+ghost use Rattle.class_names.specs.Texts.{member_of_pair};
 ghost use Rattle.hierarchy.specs.Hierarchy.{row_of};
 ghost use Rattle.hierarchy.specs.Walks.{first_some, or_else, has, IsWalked};
-ghost use Rattle.link_rules.specs.Numbers.{holder_of, super_rows, interface_rows, field_rows, supers_of};
-ghost use Rattle.link_uses.specs.Lookups.{field_from, class_method, interface_method, found_field, found_method};
-ghost use Rattle.link_uses.specs.Owned.{found_at, IsOwned};
+ghost use Rattle.link_rules.specs.Numbers.{super_rows, interface_rows, field_rows, supers_of};
+ghost use Rattle.link_uses.specs.Lookups.{found_field, found_method};
+ghost use Rattle.link_uses.specs.Owned.{found_at, signed_field, signed_class_method, signed_interface_method, signed_method, IsOwned};
 ghost use Rattle.link_uses.specs.Tables.{AreTables, HasRanks};
+ghost use Rattle.link_uses.specs.TextNumbers.{AreNumbers};
 
 use crate::owned::{Owned, Places};
+use crate::text_numbers::{Sign, TextNumbers, holder, pair_sought};
 use class_format::{INTERFACE, has_flag};
-use class_names::{Called, is_array};
-use jvm_base::{List, NoMemory};
+use class_names::Called;
+use jvm_base::{List, NoMemory, PoolItem};
 use link_rules::Program;
 use std::alloc::Global;
 use std::marker::Model;
@@ -27,7 +30,7 @@ pub struct Found {
 
 /// The member of a sign that the class of a number declares itself.
 #[tactic(auto, unfolding(crate::specs::Owned::found_at))]
-fn own(places: &Places, sign: (usize, usize), number: u32) -> Option<Found>
+fn own(places: &Places, sign: Sign, number: u32) -> Option<Found>
     ensures { result ≡ found_at places.now.entries sign number }
 {
     let place = *places.get(&(number, sign))?;
@@ -38,7 +41,7 @@ fn own(places: &Places, sign: (usize, usize), number: u32) -> Option<Found>
 }
 
 /// The first along a walk upwards.
-fn first(places: &Places, sign: (usize, usize), walk: &[u32]) -> Option<Found>
+fn first(places: &Places, sign: Sign, walk: &[u32]) -> Option<Found>
     ensures { result ≡ first_some (found_at places.now.entries sign) walk.now }
 {
     for number in walk {
@@ -61,7 +64,7 @@ fn row(table: &[List<u32>], number: u32) -> &[u32]
 /// The first in the walks over interfaces from some classes.
 fn first_in_interfaces(
     places: &Places,
-    sign: (usize, usize),
+    sign: Sign,
     interfaces: &[List<u32>],
     classes: &[u32],
 ) -> Option<Found>
@@ -79,7 +82,7 @@ fn first_in_interfaces(
 #[tactic(auto, using(crate::proofs::WalkedLaws::or_first, crate::proofs::WalkedLaws::or_second))]
 fn first_in_class(
     places: &Places,
-    sign: (usize, usize),
+    sign: Sign,
     interfaces: &[List<u32>],
     lineage: &[u32],
 ) -> Option<Found>
@@ -93,7 +96,7 @@ fn first_in_class(
 
 /// The first along a walk over interfaces, then in Object.
 #[tactic(auto, using(crate::proofs::WalkedLaws::or_first, crate::proofs::WalkedLaws::or_second))]
-fn first_in_interface(places: &Places, sign: (usize, usize), walk: &[u32]) -> Option<Found>
+fn first_in_interface(places: &Places, sign: Sign, walk: &[u32]) -> Option<Found>
     ensures { result ≡ or_else (first_some (found_at places.now.entries sign) walk.now) (found_at places.now.entries sign 0) }
 {
     match first(places, sign, walk) {
@@ -130,80 +133,147 @@ impl<'p, 'a> Model for Resolver<'p, 'a> {
     ghost invariant = { λ r. AreTables r.program.now r.supers r.interfaces r.fields × IsOwned r.program.now r.owned };
 }
 
-/// The number of the class whose members a class item of that text has.
-fn holder(program: &Program, text: &[u16]) -> u32
-    requires some { 0 < length program.now }
-    requires few { length program.now < 2 ^ 25 }
-    ensures value { result ≡ holder_of program.now text.now }
-    ensures within { result < length program.now }
-{
-    if is_array(text) {
-        return 0;
-    }
-    match program.number(text) {
-        Some(number) => number as u32,
-        None => 0,
-    }
-}
-
-/// A field from a class on: in it, in its superinterfaces, in its superclass, and so on.
-fn field_from(
-    program: &Program,
-    owned: &Owned,
+/// The first member of a sign along the walk for fields from a class on.
+fn signed_field(
+    places: &Places,
     fields: &[List<u32>],
-    m: &Called,
+    sign: Option<Sign>,
     number: u32,
 ) -> Option<Found>
-    requires owned { IsOwned program.now owned.now }
-    requires walked { IsWalked (field_rows program.now) fields.now }
-    requires inside { number < length program.now }
-    ensures { result ≡ field_from program.now (seen_member m.now) number }
+    ensures { result ≡ signed_field places.now.entries fields.now sign number }
 {
-    match owned.sign(m) {
-        Some(sign) => first(&owned.fields, sign, row(fields, number)),
+    match sign {
+        Some(sign) => first(places, sign, row(fields, number)),
         None => None,
     }
 }
 
-/// A method of a class: in it and its superclasses, then in all superinterfaces.
-fn class_method(
+/// The first method of a sign in a class and its superclasses, then in all superinterfaces.
+fn signed_class_method(
+    places: &Places,
+    supers: &[List<u32>],
+    interfaces: &[List<u32>],
+    sign: Option<Sign>,
+    number: u32,
+) -> Option<Found>
+    ensures { result ≡ signed_class_method places.now.entries supers.now interfaces.now sign number }
+{
+    match sign {
+        Some(sign) => first_in_class(places, sign, interfaces, row(supers, number)),
+        None => None,
+    }
+}
+
+/// The first method of a sign in an interface and its superinterfaces, then in Object.
+fn signed_interface_method(
+    places: &Places,
+    interfaces: &[List<u32>],
+    sign: Option<Sign>,
+    number: u32,
+) -> Option<Found>
+    ensures { result ≡ signed_interface_method places.now.entries interfaces.now sign number }
+{
+    match sign {
+        Some(sign) => first_in_interface(places, sign, row(interfaces, number)),
+        None => None,
+    }
+}
+
+/// A method of a class or an interface, by its sign.
+fn signed_method(
+    program: &Program,
+    places: &Places,
+    supers: &[List<u32>],
+    interfaces: &[List<u32>],
+    sign: Option<Sign>,
+    number: u32,
+) -> Option<Found>
+    ensures { result ≡ signed_method program.now places.now.entries supers.now interfaces.now sign number }
+{
+    if has_flag(program.flags_at(number as usize), INTERFACE) {
+        signed_interface_method(places, interfaces, sign, number)
+    } else {
+        signed_class_method(places, supers, interfaces, sign, number)
+    }
+}
+
+/// The field that a member item names.
+fn field_named(program: &Program, owned: &Owned, fields: &[List<u32>], m: &Called) -> Option<Found>
+    requires owned { IsOwned program.now owned.now }
+    requires walked { IsWalked (field_rows program.now) fields.now }
+    requires some { 0 < length program.now }
+    requires few { length program.now < 2 ^ 25 }
+    ensures { result ≡ found_field program.now (seen_member m.now) }
+{
+    let number = holder(program, m.class);
+    signed_field(&owned.fields, fields, owned.sign(m), number)
+}
+
+/// The field that the member item of a class and a pair names.
+fn field_of_pair(
+    program: &Program,
+    owned: &Owned,
+    fields: &[List<u32>],
+    numbers: &TextNumbers,
+    pool: &[PoolItem],
+    class: u16,
+    pair: u16,
+) -> Option<Found>
+    requires owned { IsOwned program.now owned.now }
+    requires walked { IsWalked (field_rows program.now) fields.now }
+    requires some { 0 < length program.now }
+    requires few { length program.now < 2 ^ 25 }
+    requires numbers { AreNumbers program.now pool.now numbers.now }
+    ensures { result ≡ found_field program.now (member_of_pair pool.now class (slice_get pool.now pair)) }
+{
+    let sought = pair_sought(program, &owned.names, numbers, pool, class, pair);
+    signed_field(&owned.fields, fields, sought.sign, sought.holder)
+}
+
+/// The method that a member item names.
+fn method_named(
     program: &Program,
     owned: &Owned,
     supers: &[List<u32>],
     interfaces: &[List<u32>],
     m: &Called,
-    number: u32,
 ) -> Option<Found>
     requires owned { IsOwned program.now owned.now }
     requires supers { IsWalked (super_rows program.now) supers.now }
     requires interfaces { IsWalked (interface_rows program.now) interfaces.now }
     requires ranked { HasRanks (interface_rows program.now) }
-    requires inside { number < length program.now }
-    ensures { result ≡ class_method program.now (seen_member m.now) number }
+    requires some { 0 < length program.now }
+    requires few { length program.now < 2 ^ 25 }
+    ensures { result ≡ found_method program.now (seen_member m.now) }
 {
-    match owned.sign(m) {
-        Some(sign) => first_in_class(&owned.methods, sign, interfaces, row(supers, number)),
-        None => None,
-    }
+    let number = holder(program, m.class);
+    let sign = owned.sign(m);
+    signed_method(program, &owned.methods, supers, interfaces, sign, number)
 }
 
-/// A method of an interface: in it and its superinterfaces, then in Object.
-fn interface_method(
+/// The method that the member item of a class and a pair names.
+fn method_of_pair(
     program: &Program,
     owned: &Owned,
+    supers: &[List<u32>],
     interfaces: &[List<u32>],
-    m: &Called,
-    number: u32,
+    numbers: &TextNumbers,
+    pool: &[PoolItem],
+    class: u16,
+    pair: u16,
 ) -> Option<Found>
     requires owned { IsOwned program.now owned.now }
+    requires supers { IsWalked (super_rows program.now) supers.now }
     requires interfaces { IsWalked (interface_rows program.now) interfaces.now }
-    requires inside { number < length program.now }
-    ensures { result ≡ interface_method program.now (seen_member m.now) number }
+    requires ranked { HasRanks (interface_rows program.now) }
+    requires some { 0 < length program.now }
+    requires few { length program.now < 2 ^ 25 }
+    requires numbers { AreNumbers program.now pool.now numbers.now }
+    ensures { result ≡ found_method program.now (member_of_pair pool.now class (slice_get pool.now pair)) }
 {
-    match owned.sign(m) {
-        Some(sign) => first_in_interface(&owned.methods, sign, row(interfaces, number)),
-        None => None,
-    }
+    let sought = pair_sought(program, &owned.names, numbers, pool, class, pair);
+    let (sign, number) = (sought.sign, sought.holder);
+    signed_method(program, &owned.methods, supers, interfaces, sign, number)
 }
 
 fn is_other(walk: &[u32], number: u32, above: u32) -> bool
@@ -255,26 +325,71 @@ impl<'p, 'a> Resolver<'p, 'a> {
         self.program
     }
 
+    /// The numbers of the texts of a pool.
+    pub(crate) fn text_numbers(
+        &self,
+        alloc: Global,
+        pool: &[PoolItem],
+    ) -> Result<TextNumbers, NoMemory>
+        ensures { IfOk result (λ numbers. AreNumbers self.now pool.now numbers) }
+    {
+        TextNumbers::new(alloc, self.program, &self.owned.names, pool)
+    }
+
     /// The field that a member item names (JVMS2 5.4.3.2).
     pub fn field(&self, m: &Called) -> Option<Found>
         ensures { result ≡ found_field self.now (seen_member m.now) }
     {
-        let number = holder(self.program, m.class);
-        field_from(self.program, &self.owned, self.fields.as_slice(), m, number)
+        field_named(self.program, &self.owned, self.fields.as_slice(), m)
+    }
+
+    /// The field that the item of a class and a pair names, by the numbers of its texts.
+    pub(crate) fn item_field(
+        &self,
+        numbers: &TextNumbers,
+        pool: &[PoolItem],
+        class: u16,
+        pair: u16,
+    ) -> Option<Found>
+        requires { AreNumbers self.now pool.now numbers.now }
+        ensures { result ≡ found_field self.now (member_of_pair pool.now class (slice_get pool.now pair)) }
+    {
+        let fields = self.fields.as_slice();
+        field_of_pair(
+            self.program,
+            &self.owned,
+            fields,
+            numbers,
+            pool,
+            class,
+            pair,
+        )
     }
 
     /// The method that a member item names (JVMS2 5.4.3.3, 5.4.3.4).
     pub fn method(&self, m: &Called) -> Option<Found>
         ensures { result ≡ found_method self.now (seen_member m.now) }
     {
-        let number = holder(self.program, m.class);
-        let interfaces = self.interfaces.as_slice();
-        if has_flag(self.program.flags_at(number as usize), INTERFACE) {
-            interface_method(self.program, &self.owned, interfaces, m, number)
-        } else {
-            let supers = self.supers.as_slice();
-            class_method(self.program, &self.owned, supers, interfaces, m, number)
-        }
+        let (supers, interfaces) = (self.supers.as_slice(), self.interfaces.as_slice());
+        method_named(self.program, &self.owned, supers, interfaces, m)
+    }
+
+    /// The method that the item of a class and a pair names, by the numbers of its texts.
+    pub(crate) fn item_method(
+        &self,
+        numbers: &TextNumbers,
+        pool: &[PoolItem],
+        class: u16,
+        pair: u16,
+    ) -> Option<Found>
+        requires { AreNumbers self.now pool.now numbers.now }
+        ensures { result ≡ found_method self.now (member_of_pair pool.now class (slice_get pool.now pair)) }
+    {
+        let (supers, interfaces) = (self.supers.as_slice(), self.interfaces.as_slice());
+        let (program, owned) = (self.program, &self.owned);
+        method_of_pair(
+            program, owned, supers, interfaces, numbers, pool, class, pair,
+        )
     }
 
     /// Whether a class is one of the superclasses of another.

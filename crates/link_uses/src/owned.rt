@@ -8,8 +8,9 @@ ghost use Rattle.class_format.specs.declared.member_kind.MemberKind.TheVariants 
 ghost use Rattle.class_names.specs.Known.{add_name, add_names};
 ghost use Rattle.class_names.specs.Seen.{seen_member};
 ghost use Rattle.class_names.specs.Texts.{text_in};
-ghost use Rattle.link_uses.specs.Owned.{Key, key_cmp, place_at, signatures, signatures_at, signature_texts, member_texts, class_texts, has_key, sign_of, ArePlaces, IsOwned};
+ghost use Rattle.link_uses.specs.Owned.{Key, key_cmp, place_at, signatures, signatures_at, signature_texts, member_texts, class_texts, member_names, has_key, sign_of, ArePlaces, IsOwned};
 
+use crate::text_numbers::{Sign, signed};
 use class_format::{ClassFile, MemberKind};
 use class_names::{Called, Names, text};
 use jvm_base::NoMemory;
@@ -18,7 +19,7 @@ use std::alloc::Global;
 use std::collections::BTreeMap;
 
 /// The places of members by their class and by the numbers of their name and descriptor.
-pub(crate) type Places = BTreeMap<(u32, (usize, usize)), usize>;
+pub(crate) type Places = BTreeMap<(u32, Sign), usize>;
 
 /// The texts of the names and descriptors of all members, and the place of each member.
 #[derive(Drop)]
@@ -87,9 +88,9 @@ fn add_file_texts<'a>(names: &mut Names<'a>, files: &'a [ClassFile]) -> Result<(
 }
 
 /// The texts of the members of all classes.
-#[tactic(auto, using(crate::proofs::OwnedBuilt::texts_both))]
+#[tactic(auto, using(crate::proofs::OwnedBuilt::texts_both), unfolding(crate::specs::Owned::member_names))]
 fn texts<'a>(alloc: Global, program: &'a Program<'_>) -> Result<Names<'a>, NoMemory>
-    ensures { IfOk result (λ names. names ≡ add_names [] (flat_map class_texts program.now)) }
+    ensures { IfOk result (λ names. names ≡ member_names program.now) }
 {
     let mut names = Names::new(alloc);
     let (boot, files) = program.parts();
@@ -99,11 +100,7 @@ fn texts<'a>(alloc: Global, program: &'a Program<'_>) -> Result<Names<'a>, NoMem
 }
 
 /// Adds the place of a key, where the key has none yet.
-fn add_place(
-    places: &mut Places,
-    added: (u32, (usize, usize)),
-    place: usize,
-) -> Result<(), NoMemory>
+fn add_place(places: &mut Places, added: (u32, Sign), place: usize) -> Result<(), NoMemory>
     ensures { OnOk result ((key : Key) → place_at places.new.entries key ≡ or_else (place_at places.old.entries key) (if is_at (key_cmp added) key then Some place else None)) }
 {
     if !places.contains_key(&added) {
@@ -218,12 +215,9 @@ impl<'a> Owned<'a> {
 
     /// The numbers of a member's name and descriptor; `None` where no class declares such a name or
     /// such a descriptor.
-    pub fn sign(&self, m: &Called) -> Option<(usize, usize)>
+    pub fn sign(&self, m: &Called) -> Option<Sign>
         ensures { result ≡ sign_of self.now.names (seen_member m.now) }
     {
-        match (self.names.number(m.name), self.names.number(m.desc)) {
-            (Some(name), Some(desc)) => Some((name, desc)),
-            _ => None,
-        }
+        signed(self.names.number(m.name), self.names.number(m.desc))
     }
 }
