@@ -7,8 +7,10 @@ ghost use Rattle.link_image.specs.Fields.{no_desc, field_info, field_infos};
 ghost use Rattle.jvm_base.specs.Descriptors.{desc_of};
 ghost use Rattle.jvm_base.specs.Words.{from};
 ghost use Rattle.class_names.specs.Texts.{text_in};
+ghost use Rattle.link_arrays.specs.Literals.{literal_number};
+ghost use Rattle.link_uses.specs.TextNumbers.{AreOf};
 
-use crate::constants::{Constants, constant};
+use crate::constants::{Constants, constant, literal_numbers};
 use class_format::{ClassFile, FieldItem, STATIC, has_flag};
 use class_names::text;
 use jvm_base::{Desc, Elem, List, NoMemory, PoolItem, Units};
@@ -57,12 +59,14 @@ fn field_desc(alloc: Global, pool: &[PoolItem], index: u16) -> Result<Desc, NoMe
 fn field_info(
     alloc: Global,
     constants: &Constants<'_, '_>,
+    told: &[Option<usize>],
     file: &ClassFile,
     owner: u32,
     place: u32,
     field: &FieldItem,
 ) -> Result<FieldInfo, NoMemory>
-    requires { constants.now.classes + length constants.now.literals.now < 2 ^ 32 }
+    requires room { constants.now.classes + length constants.now.literals.now < 2 ^ 32 }
+    requires told { AreOf (literal_number constants.now.literals.now) file.now.pool told.now }
     ensures { IfOk result (λ info. info ≡ field_info constants.now.classes constants.now.literals.now file.now owner place field.now) }
 {
     let pool = file.pool.as_slice();
@@ -73,7 +77,7 @@ fn field_info(
         flags: field.flags,
         place,
         constant: match field.constant {
-            Some(index) => constant(constants, pool, index),
+            Some(index) => constant(constants, told, pool, index),
             None => None,
         },
     })
@@ -91,6 +95,8 @@ pub(crate) fn field_infos(
     requires places { base + length file.now.fields < 2 ^ 32 }
     ensures { IfOk result (λ infos. infos ≡ field_infos constants.now.classes constants.now.literals.now file.now owner base) }
 {
+    let told = literal_numbers(alloc, constants.literals, file.pool.as_slice())?;
+    let told = told.as_slice();
     let mut infos = List::new(alloc);
     let mut next = Next {
         instance: base,
@@ -98,7 +104,7 @@ pub(crate) fn field_infos(
     };
     for field in file.fields.as_slice() {
         let place = take_place(&mut next, field);
-        infos.push(field_info(alloc, constants, file, owner, place, field)?)?;
+        infos.push(field_info(alloc, constants, told, file, owner, place, field)?)?;
     }
     Ok(infos)
 }

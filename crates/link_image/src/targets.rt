@@ -4,14 +4,14 @@ ghost use Rattle.std.specs.Prelude.{◌≡◌, ◌+◌, ◌++◌, ◌<◌, ◌^�
 ghost use Rattle.std.specs.List.{AllByRecursion, flat_map};
 ghost use Rattle.class_names.specs.Classes.{code_of, codes_of};
 ghost use Rattle.link_rules.specs.Numbers.{numbered};
-ghost use Rattle.link_image.specs.Kept.Items.{AreNamed};
+ghost use Rattle.link_image.specs.Kept.Items.{AreTold};
 ghost use Rattle.link_image.specs.Methods.{count_methods};
 ghost use Rattle.link_image.specs.Seen.{seen_lookup, IsFit};
 ghost use Rattle.link_image.specs.Sizes.{IsShort, HasShortCode};
 ghost use Rattle.link_image.specs.Targets.{op_target, placing, placed_target, caught, entry_target, method_targets, class_targets, all_targets};
 
-use crate::items::{item_class, item_constant, item_field, item_method, item_targets};
-use crate::lookup::{Lookup, declared_class};
+use crate::items::{Told, item_class, item_constant, item_field, item_method};
+use crate::lookup::Lookup;
 use class_format::{ClassFile, MethodItem};
 use class_names::{class_text, is_array};
 use code_table::{Code, Op, Placed};
@@ -31,11 +31,11 @@ fn op_target(
     alloc: Global,
     lookup: &Lookup<'_, '_, '_>,
     file: &ClassFile,
-    told: &[Option<Target>],
+    told: &Told,
     op: &Op,
 ) -> Result<Option<Target>, NoMemory>
     requires fit { IsFit lookup.now }
-    requires told { AreNamed (seen_lookup lookup.now) file.now told.now }
+    requires told { AreTold (seen_lookup lookup.now) file.now told.now }
     ensures { IfOk result (λ target. target ≡ op_target (seen_lookup lookup.now) file.now op.now) }
 {
     match op {
@@ -68,12 +68,12 @@ fn add_ops(
     targets: &mut Targets,
     lookup: &Lookup<'_, '_, '_>,
     file: &ClassFile,
-    told: &[Option<Target>],
+    told: &Told,
     method: u32,
     ops: &[Placed],
 ) -> Result<(), NoMemory>
     requires fit { IsFit lookup.now }
-    requires told { AreNamed (seen_lookup lookup.now) file.now told.now }
+    requires told { AreTold (seen_lookup lookup.now) file.now told.now }
     ensures { OnOk result (targets.new ≡ targets.old ++ flat_map (placed_target (seen_lookup lookup.now) file.now method) ops.now) }
 {
     for placed in ops {
@@ -84,33 +84,44 @@ fn add_ops(
 }
 
 /// The class of an entry of an exception table.
-fn caught(lookup: &Lookup<'_, '_, '_>, file: &ClassFile, entry: TableItem) -> Option<Target>
-    requires { IsFit lookup.now }
-    ensures { result ≡ caught (seen_lookup lookup.now) file.now entry }
+fn caught(
+    alloc: Global,
+    lookup: &Lookup<'_, '_, '_>,
+    file: &ClassFile,
+    told: &Told,
+    entry: TableItem,
+) -> Result<Option<Target>, NoMemory>
+    requires fit { IsFit lookup.now }
+    requires told { AreTold (seen_lookup lookup.now) file.now told.now }
+    ensures { IfOk result (λ target. target ≡ caught (seen_lookup lookup.now) file.now entry) }
 {
     let text = class_text(file.pool.as_slice(), entry.class);
     if entry.class == 0 || is_array(text) {
-        None
+        Ok(None)
     } else {
-        declared_class(lookup, text)
+        item_class(alloc, lookup, file, told, entry.class)
     }
 }
 
 /// Adds the classes of the entries of a method's exception table.
 fn add_table(
+    alloc: Global,
     targets: &mut Targets,
     lookup: &Lookup<'_, '_, '_>,
     file: &ClassFile,
+    told: &Told,
     method: u32,
     table: &[TableItem],
 ) -> Result<(), NoMemory>
     requires fit { IsFit lookup.now }
+    requires told { AreTold (seen_lookup lookup.now) file.now told.now }
     requires short { length table.now < 2 ^ 16 }
     ensures { OnOk result (targets.new ≡ targets.old ++ numbered (entry_target (seen_lookup lookup.now) file.now method) 0 table.now) }
 {
     let mut at = ENTRIES;
     for entry in table {
-        add(targets, method, at, caught(lookup, file, *entry))?;
+        let target = caught(alloc, lookup, file, told, *entry)?;
+        add(targets, method, at, target)?;
         at += 1;
     }
     Ok(())
@@ -123,19 +134,19 @@ fn add_method(
     targets: &mut Targets,
     lookup: &Lookup<'_, '_, '_>,
     file: &ClassFile,
-    told: &[Option<Target>],
+    told: &Told,
     number: u32,
     method: &MethodItem,
     code: &Option<Code>,
 ) -> Result<(), NoMemory>
     requires fit { IsFit lookup.now }
-    requires told { AreNamed (seen_lookup lookup.now) file.now told.now }
+    requires told { AreTold (seen_lookup lookup.now) file.now told.now }
     requires code { code.now ≡ code_of file.now.pool method.now }
     requires short { IsShort method.now.code }
     ensures { OnOk result (targets.new ≡ targets.old ++ method_targets (seen_lookup lookup.now) file.now number method.now) }
 {
     add_ops(alloc, targets, lookup, file, told, number, ops(code))?;
-    add_table(targets, lookup, file, number, table(method))
+    add_table(alloc, targets, lookup, file, told, number, table(method))
 }
 
 /// Adds what the methods of a class name, of which the first has a number and which have this code.
@@ -154,13 +165,12 @@ fn add_class(
     requires few { first + length file.now.methods < 2 ^ 32 }
     ensures { OnOk result (targets.new ≡ targets.old ++ class_targets (seen_lookup lookup.now) first file.now) }
 {
-    let told = item_targets(alloc, lookup, file)?;
-    let told = told.as_slice();
+    let told = Told::new(alloc, lookup, file)?;
     let methods = file.methods.as_slice();
     let mut number = first;
     for i in 0..methods.len() {
         let (method, code) = (&methods[i], &codes[i]);
-        add_method(alloc, targets, lookup, file, told, number, method, code)?;
+        add_method(alloc, targets, lookup, file, &told, number, method, code)?;
         number += 1;
     }
     Ok(())
