@@ -38,7 +38,7 @@ one_text names a b i ea eb =
     same_text a (get_or names i a) (sym pa) ∙ sym (same_text b (get_or names i a) (sym pb))
 
 -- a text has another's number exactly where the two are one
-number_is : (names : List (List ℕ)) (asked text : List ℕ) (n : ℕ) → position (is_name asked) names ≡ Some n → has_number names text n ≡ is_name asked text
+pub number_is : (names : List (List ℕ)) (asked text : List ℕ) (n : ℕ) → position (is_name asked) names ≡ Some n → has_number names text n ≡ is_name asked text
 number_is names asked text n at = by (is_name asked text) refl
   where
     no : (o : Option ℕ) → position (is_name text) names ≡ o → is_name asked text ≡ false → from false (λ k. nat_eq k n) o ≡ false

@@ -70,9 +70,17 @@ class_texts g = member_texts Field g ++ member_texts Method g
 unfoldable pub member_names : List ClassFile → List (List ℕ)
 member_names all = add_names [] (flat_map class_texts all)
 
+-- the number of a text, where it was seen
+abbrev pub name_number : List (List ℕ) → List ℕ → Option ℕ
+name_number names text = position (is_name text) names
+
+-- the number is there, and is that one
+abbrev pub is_number : Option ℕ → ℕ → Bool
+is_number number n = from false (λ k. nat_eq k n) number
+
 -- the text has the number
 abbrev pub has_number : List (List ℕ) → List ℕ → ℕ → Bool
-has_number names text n = from false (λ k. nat_eq k n) (position (is_name text) names)
+has_number names text n = is_number (name_number names text) n
 
 -- name and descriptor have the numbers
 abbrev pub has_sign : List (List ℕ) → Sign → Signature → Bool
@@ -81,10 +89,6 @@ has_sign names sign s = has_number names s.0 sign.0 && has_number names s.1 sign
 -- the member of a class has the key
 abbrev pub has_key : List (List ℕ) → ℕ → Key → Signature → Bool
 has_key names class key s = nat_eq class key.0 && has_sign names key.1 s
-
--- the number of a text, where it was seen
-abbrev pub name_number : List (List ℕ) → List ℕ → Option ℕ
-name_number names text = position (is_name text) names
 
 -- both numbers, where there are both
 abbrev pub signed : Option ℕ → Option ℕ → Option Sign

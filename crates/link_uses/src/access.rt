@@ -1,8 +1,9 @@
 //! What code uses is accessible.
 
-ghost use Rattle.std.specs.Prelude.{◌≡◌, ◌+◌, ◌<◌, ◌≤◌, ◌^◌, ◌&&◌, not, true, [], length, map, IfOk};
+ghost use Rattle.std.specs.Prelude.{◌≡◌, ◌+◌, ◌++◌, ◌<◌, ◌≤◌, ◌^◌, ◌&&◌, not, true, [], length, map, IfOk};
 ghost use Rattle.std.specs.List.{flat_map};
 ghost use Rattle.class_format.specs.Flags.{is_public};
+ghost use Rattle.class_names.specs.Known.{is_name};
 ghost use Rattle.class_names.specs.Classes.{this_name, code_of, codes_of};
 ghost use Rattle.class_names.specs.Texts.{class_text, member_in};
 ghost use Rattle.jvm_base.specs.Descriptors.{desc_of};
@@ -11,33 +12,34 @@ ghost use Rattle.class_names.specs.Named.{desc_names};
 ghost use Rattle.class_names.specs.Seen.{seen_member};
 ghost use Rattle.link_rules.specs.Answers.{IsAnswer};
 ghost use Rattle.link_rules.specs.Numbers.{numbered, flags_of};
-ghost use Rattle.link_rules.specs.Packages.{is_one_package};
+ghost use Rattle.link_rules.specs.Packages.{package_of};
 ghost use Rattle.link_uses.specs.Items.{AreItems};
 ghost use Rattle.link_rules.specs.Marks.{AreRight};
+ghost use Rattle.link_uses.specs.Near.{ArePackages, IsNear};
 ghost use Rattle.link_uses.specs.Lookups.{found_field, found_method};
-ghost use Rattle.link_uses.specs.Uses.{name_at, no_access_class, no_access_item, is_hidden, is_foreign_write, is_hidden_field, no_access_field, is_hidden_method, no_access_method, no_access_op, no_access_placed, no_access_entry, no_access_in, no_access};
+ghost use Rattle.link_uses.specs.Uses.{no_access_class, no_access_item, is_hidden, is_foreign_write, is_hidden_field, no_access_field, is_hidden_method, no_access_method, no_access_op, no_access_placed, no_access_entry, no_access_in, no_access};
 
 use crate::flags::{field_flags, method_flags};
 use crate::items::{field_at, file_items, method_at};
 use crate::lookup::{Found, Resolver};
+use crate::packages::{Near, Packages, is_near, near_to, package_name};
 use class_format::{ClassFile, FINAL, MethodItem, PRIVATE, PROTECTED, PUBLIC, has_flag};
-use class_names::{Called, class_text, desc, is_array, member, text, this_name};
+use class_names::{Called, class_text, desc, is_array, member, text};
 use code_table::opcode::{PUTFIELD, PUTSTATIC};
 use code_table::{Code, Op, Placed};
 use jvm_base::{Desc, Elem, List, NoMemory, TableItem};
-use link_members::is_one_package;
 use link_rules::{
     LinkErr, LinkWhy, Program, ops, refuse_class_if, refuse_member_if, table, told_class,
     told_owner,
 };
 use std::alloc::Global;
 
-/// Whether a class is neither public nor of the same package.
-fn is_hidden_class(program: &Program, file: &ClassFile, name: &[u16]) -> bool
+/// Whether a class is neither public nor of a package.
+fn is_hidden_class(program: &Program, own: &[u16], name: &[u16]) -> bool
     ensures { result ≡ (not (is_public (flags_of program.now name.now))
-        && not (is_one_package (this_name file.now) name.now)) }
+        && not (is_name own.now (package_of name.now))) }
 {
-    !has_flag(program.flags_of(name), PUBLIC) && !is_one_package(this_name(file), name)
+    !has_flag(program.flags_of(name), PUBLIC) && own != package_name(name)
 }
 
 #[tactic(auto, unfolding(crate::specs::Uses::no_access_class))]
@@ -45,11 +47,13 @@ fn check_class(
     alloc: Global,
     program: &Program,
     file: &ClassFile,
+    own: &[u16],
     name: &[u16],
 ) -> Result<(), LinkErr>
+    requires own { own.now ≡ package_of (this_name file.now) }
     ensures { IsAnswer (no_access_class program.now file.now name.now) result }
 {
-    let is_hidden = is_hidden_class(program, file, name);
+    let is_hidden = is_hidden_class(program, own, name);
     refuse_class_if(alloc, is_hidden, LinkWhy::NoAccess, file, name)
 }
 
@@ -58,12 +62,14 @@ fn check_desc(
     alloc: Global,
     program: &Program,
     file: &ClassFile,
+    own: &[u16],
     desc: &Desc,
 ) -> Result<(), LinkErr>
+    requires own { own.now ≡ package_of (this_name file.now) }
     ensures { IsAnswer (flat_map (no_access_class program.now file.now) (desc_names desc.now)) result }
 {
     match &desc.elem {
-        Elem::Object(name) => check_class(alloc, program, file, name.as_slice()),
+        Elem::Object(name) => check_class(alloc, program, file, own, name.as_slice()),
         _ => Ok(()),
     }
 }
@@ -73,12 +79,14 @@ fn check_array(
     alloc: Global,
     program: &Program,
     file: &ClassFile,
+    own: &[u16],
     text: &[u16],
 ) -> Result<(), LinkErr>
+    requires own { own.now ≡ package_of (this_name file.now) }
     ensures { IsAnswer (flat_map (no_access_class program.now file.now) (from [] desc_names (desc_of text.now))) result }
 {
     match desc(alloc, text)? {
-        Some(desc) => check_desc(alloc, program, file, &desc),
+        Some(desc) => check_desc(alloc, program, file, own, &desc),
         None => Ok(()),
     }
 }
@@ -89,24 +97,27 @@ fn check_text(
     alloc: Global,
     program: &Program,
     file: &ClassFile,
+    own: &[u16],
     text: &[u16],
 ) -> Result<(), LinkErr>
+    requires own { own.now ≡ package_of (this_name file.now) }
     ensures { IsAnswer (no_access_item program.now file.now text.now) result }
 {
     if is_array(text) {
-        check_array(alloc, program, file, text)
+        check_array(alloc, program, file, own, text)
     } else {
-        check_class(alloc, program, file, text)
+        check_class(alloc, program, file, own, text)
     }
 }
 
 /// Whether no class in a descriptor is refused.
 #[tactic(auto, unfolding(crate::specs::Uses::no_access_class))]
-fn is_allowed_desc(program: &Program, file: &ClassFile, desc: &Desc) -> bool
+fn is_allowed_desc(program: &Program, file: &ClassFile, own: &[u16], desc: &Desc) -> bool
+    requires own { own.now ≡ package_of (this_name file.now) }
     ensures { result ≡ true → flat_map (no_access_class program.now file.now) (desc_names desc.now) ≡ [] }
 {
     match &desc.elem {
-        Elem::Object(name) => !is_hidden_class(program, file, name.as_slice()),
+        Elem::Object(name) => !is_hidden_class(program, own, name.as_slice()),
         _ => true,
     }
 }
@@ -115,12 +126,14 @@ fn is_allowed_array(
     alloc: Global,
     program: &Program,
     file: &ClassFile,
+    own: &[u16],
     text: &[u16],
 ) -> Result<bool, NoMemory>
+    requires own { own.now ≡ package_of (this_name file.now) }
     ensures { IfOk result (λ b. b ≡ true → flat_map (no_access_class program.now file.now) (from [] desc_names (desc_of text.now)) ≡ []) }
 {
     match desc(alloc, text)? {
-        Some(desc) => Ok(is_allowed_desc(program, file, &desc)),
+        Some(desc) => Ok(is_allowed_desc(program, file, own, &desc)),
         None => Ok(true),
     }
 }
@@ -131,26 +144,34 @@ fn is_allowed(
     alloc: Global,
     program: &Program,
     file: &ClassFile,
+    own: &[u16],
     text: &[u16],
 ) -> Result<bool, NoMemory>
+    requires own { own.now ≡ package_of (this_name file.now) }
     ensures { IfOk result (λ b. b ≡ true → no_access_item program.now file.now text.now ≡ []) }
 {
     if is_array(text) {
-        is_allowed_array(alloc, program, file, text)
+        is_allowed_array(alloc, program, file, own, text)
     } else {
-        Ok(!is_hidden_class(program, file, text))
+        Ok(!is_hidden_class(program, own, text))
     }
 }
 
 /// Which texts of the file's pool aren't refused as those of classes.
-fn allowed_texts(alloc: Global, program: &Program, file: &ClassFile) -> Result<List<bool>, NoMemory>
+fn allowed_texts(
+    alloc: Global,
+    program: &Program,
+    file: &ClassFile,
+    own: &[u16],
+) -> Result<List<bool>, NoMemory>
+    requires own { own.now ≡ package_of (this_name file.now) }
     ensures { IfOk result (λ allowed. AreRight (no_access_item program.now file.now) file.now.pool allowed) }
 {
     let pool = file.pool.as_slice();
     let mut allowed = List::new(alloc);
     let count = pool.len().min(u16::MAX as usize) as u16;
     for index in 0..count {
-        allowed.push(is_allowed(alloc, program, file, text(pool, index))?)?;
+        allowed.push(is_allowed(alloc, program, file, own, text(pool, index))?)?;
     }
     Ok(allowed)
 }
@@ -160,16 +181,18 @@ fn check_item(
     alloc: Global,
     program: &Program,
     file: &ClassFile,
+    own: &[u16],
     allowed: &[bool],
     index: u16,
 ) -> Result<(), LinkErr>
     requires allowed { AreRight (no_access_item program.now file.now) file.now.pool allowed.now }
+    requires own { own.now ≡ package_of (this_name file.now) }
     ensures { IsAnswer (no_access_item program.now file.now (class_text file.now.pool index)) result }
 {
     let pool = file.pool.as_slice();
     match told_class(allowed, pool, index) {
         Some(true) => Ok(()),
-        _ => check_text(alloc, program, file, class_text(pool, index)),
+        _ => check_text(alloc, program, file, own, class_text(pool, index)),
     }
 }
 
@@ -178,32 +201,33 @@ fn check_owner(
     alloc: Global,
     program: &Program,
     file: &ClassFile,
+    own: &[u16],
     allowed: &[bool],
     item: u16,
 ) -> Result<(), LinkErr>
     requires allowed { AreRight (no_access_item program.now file.now) file.now.pool allowed.now }
+    requires own { own.now ≡ package_of (this_name file.now) }
     ensures { IsAnswer (no_access_item program.now file.now (member_in file.now.pool item).class) result }
 {
     let pool = file.pool.as_slice();
     match told_owner(allowed, pool, item) {
         Some(true) => Ok(()),
-        _ => check_text(alloc, program, file, member(pool, item).class),
-    }
-}
-
-fn name_at<'a>(program: &'a Program, number: u32) -> &'a [u16]
-    ensures { result.now ≡ name_at program.now number }
-{
-    match program.class(number as usize) {
-        Some(class) => this_name(class),
-        None => &[],
+        _ => check_text(alloc, program, file, own, member(pool, item).class),
     }
 }
 
 /// Whether a member of these flags that the class `owner` declares isn't accessible from `file`.
 #[tactic(auto, unfolding(crate::specs::Uses::is_hidden))]
-fn is_hidden(resolver: &Resolver, number: u32, file: &ClassFile, flags: u16, owner: u32) -> bool
-    requires { number < length resolver.now }
+fn is_hidden(
+    resolver: &Resolver,
+    number: u32,
+    file: &ClassFile,
+    near: &Near<'_>,
+    flags: u16,
+    owner: u32,
+) -> bool
+    requires inside { number < length resolver.now }
+    requires near { IsNear resolver.now file.now near.now }
     ensures { result ≡ is_hidden resolver.now number file.now flags owner }
 {
     if has_flag(flags, PRIVATE) {
@@ -211,7 +235,7 @@ fn is_hidden(resolver: &Resolver, number: u32, file: &ClassFile, flags: u16, own
     } else if has_flag(flags, PUBLIC) {
         false
     } else {
-        !is_one_package(this_name(file), name_at(resolver.program(), owner))
+        !is_near(resolver.program(), file, near, owner)
             && !(has_flag(flags, PROTECTED) && resolver.is_super(number, owner))
     }
 }
@@ -228,18 +252,20 @@ fn is_hidden_field(
     resolver: &Resolver,
     number: u32,
     file: &ClassFile,
+    near: &Near<'_>,
     op: u8,
     m: &Called,
     found: Option<Found>,
 ) -> bool
     requires inside { number < length resolver.now }
     requires found { found ≡ found_field resolver.now (seen_member m.now) }
+    requires near { IsNear resolver.now file.now near.now }
     ensures { result ≡ is_hidden_field resolver.now number file.now op (seen_member m.now) }
 {
     match found {
         Some(found) => {
             let flags = field_flags(resolver.program(), &found);
-            is_hidden(resolver, number, file, flags, found.class)
+            is_hidden(resolver, number, file, near, flags, found.class)
                 || is_foreign_write(op, number, flags, found.class)
         }
         None => false,
@@ -250,17 +276,19 @@ fn is_hidden_method(
     resolver: &Resolver,
     number: u32,
     file: &ClassFile,
+    near: &Near<'_>,
     m: &Called,
     found: Option<Found>,
 ) -> bool
     requires inside { number < length resolver.now }
     requires found { found ≡ found_method resolver.now (seen_member m.now) }
+    requires near { IsNear resolver.now file.now near.now }
     ensures { result ≡ is_hidden_method resolver.now number file.now (seen_member m.now) }
 {
     match found {
         Some(found) => {
             let flags = method_flags(resolver.program(), &found);
-            is_hidden(resolver, number, file, flags, found.class)
+            is_hidden(resolver, number, file, near, flags, found.class)
         }
         None => false,
     }
@@ -272,15 +300,17 @@ fn check_field(
     resolver: &Resolver,
     number: u32,
     file: &ClassFile,
+    near: &Near<'_>,
     op: u8,
     m: &Called,
     found: Option<Found>,
 ) -> Result<(), LinkErr>
     requires inside { number < length resolver.now }
     requires found { found ≡ found_field resolver.now (seen_member m.now) }
+    requires near { IsNear resolver.now file.now near.now }
     ensures { IsAnswer (no_access_field resolver.now number file.now op (seen_member m.now)) result }
 {
-    let is_hidden = is_hidden_field(resolver, number, file, op, m, found);
+    let is_hidden = is_hidden_field(resolver, number, file, near, op, m, found);
     refuse_member_if(alloc, is_hidden, LinkWhy::NoAccess, file, m.name, m.desc)
 }
 
@@ -290,24 +320,94 @@ fn check_call(
     resolver: &Resolver,
     number: u32,
     file: &ClassFile,
+    near: &Near<'_>,
     m: &Called,
     found: Option<Found>,
 ) -> Result<(), LinkErr>
     requires inside { number < length resolver.now }
     requires found { found ≡ found_method resolver.now (seen_member m.now) }
+    requires near { IsNear resolver.now file.now near.now }
     ensures { IsAnswer (no_access_method resolver.now number file.now (seen_member m.now)) result }
 {
-    let is_hidden = is_hidden_method(resolver, number, file, m, found);
+    let is_hidden = is_hidden_method(resolver, number, file, near, m, found);
     refuse_member_if(alloc, is_hidden, LinkWhy::NoAccess, file, m.name, m.desc)
 }
 
-/// The class that an instruction names, then the member.
+/// The class of a field's item, then the field.
 #[tactic(auto, using(link_rules::proofs::Firsts::answer_back))]
+fn check_field_item(
+    alloc: Global,
+    resolver: &Resolver,
+    number: u32,
+    file: &ClassFile,
+    near: &Near<'_>,
+    items: &[Option<Found>],
+    allowed: &[bool],
+    op: u8,
+    item: u16,
+) -> Result<(), LinkErr>
+    requires inside { number < length resolver.now }
+    requires near { IsNear resolver.now file.now near.now }
+    requires items { AreItems resolver.now file.now.pool items.now }
+    requires allowed { AreRight (no_access_item resolver.now file.now) file.now.pool allowed.now }
+    ensures { IsAnswer (no_access_item resolver.now file.now (member_in file.now.pool item).class
+        ++ no_access_field resolver.now number file.now op (member_in file.now.pool item)) result }
+{
+    let pool = file.pool.as_slice();
+    check_owner(alloc, resolver.program(), file, near.own, allowed, item)?;
+    let found = field_at(resolver, pool, items, item);
+    check_field(
+        alloc,
+        resolver,
+        number,
+        file,
+        near,
+        op,
+        &member(pool, item),
+        found,
+    )
+}
+
+/// The class of a method's item, then the method.
+#[tactic(auto, using(link_rules::proofs::Firsts::answer_back))]
+fn check_method_item(
+    alloc: Global,
+    resolver: &Resolver,
+    number: u32,
+    file: &ClassFile,
+    near: &Near<'_>,
+    items: &[Option<Found>],
+    allowed: &[bool],
+    item: u16,
+) -> Result<(), LinkErr>
+    requires inside { number < length resolver.now }
+    requires near { IsNear resolver.now file.now near.now }
+    requires items { AreItems resolver.now file.now.pool items.now }
+    requires allowed { AreRight (no_access_item resolver.now file.now) file.now.pool allowed.now }
+    ensures { IsAnswer (no_access_item resolver.now file.now (member_in file.now.pool item).class
+        ++ no_access_method resolver.now number file.now (member_in file.now.pool item)) result }
+{
+    let pool = file.pool.as_slice();
+    check_owner(alloc, resolver.program(), file, near.own, allowed, item)?;
+    let found = method_at(resolver, pool, items, item);
+    check_call(
+        alloc,
+        resolver,
+        number,
+        file,
+        near,
+        &member(pool, item),
+        found,
+    )
+}
+
+/// The class that an instruction names, then the member.
 fn check_op(
     alloc: Global,
     resolver: &Resolver,
     number: u32,
     file: &ClassFile,
+    near: &Near<'_>,
     items: &[Option<Found>],
     allowed: &[bool],
     op: &Op,
@@ -315,27 +415,25 @@ fn check_op(
     requires inside { number < length resolver.now }
     requires items { AreItems resolver.now file.now.pool items.now }
     requires allowed { AreRight (no_access_item resolver.now file.now) file.now.pool allowed.now }
+    requires near { IsNear resolver.now file.now near.now }
     ensures { IsAnswer (no_access_op resolver.now number file.now op.now) result }
 {
-    let pool = file.pool.as_slice();
-    let program = resolver.program();
     match op {
         Op::Static { op, item, .. } | Op::Field { op, item, .. } => {
-            let m = member(pool, *item);
-            check_owner(alloc, program, file, allowed, *item)?;
-            let found = field_at(resolver, pool, items, *item);
-            check_field(alloc, resolver, number, file, *op, &m, found)
+            check_field_item(
+                alloc, resolver, number, file, near, items, allowed, *op, *item,
+            )
         }
         Op::Invoke { item, .. } => {
-            let m = member(pool, *item);
-            check_owner(alloc, program, file, allowed, *item)?;
-            let found = method_at(resolver, pool, items, *item);
-            check_call(alloc, resolver, number, file, &m, found)
+            check_method_item(alloc, resolver, number, file, near, items, allowed, *item)
         }
         Op::New(item)
         | Op::AnewArray(item)
         | Op::Cast { item, .. }
-        | Op::MultiNewArray { item, .. } => check_item(alloc, program, file, allowed, *item),
+        | Op::MultiNewArray { item, .. } => {
+            let program = resolver.program();
+            check_item(alloc, program, file, near.own, allowed, *item)
+        }
         _ => Ok(()),
     }
 }
@@ -346,6 +444,7 @@ fn check_ops(
     resolver: &Resolver,
     number: u32,
     file: &ClassFile,
+    near: &Near<'_>,
     items: &[Option<Found>],
     allowed: &[bool],
     ops: &[Placed],
@@ -353,10 +452,13 @@ fn check_ops(
     requires inside { number < length resolver.now }
     requires items { AreItems resolver.now file.now.pool items.now }
     requires allowed { AreRight (no_access_item resolver.now file.now) file.now.pool allowed.now }
+    requires near { IsNear resolver.now file.now near.now }
     ensures { IsAnswer (flat_map (no_access_placed resolver.now number file.now) ops.now) result }
 {
     for placed in ops {
-        check_op(alloc, resolver, number, file, items, allowed, &placed.op)?;
+        check_op(
+            alloc, resolver, number, file, near, items, allowed, &placed.op,
+        )?;
     }
     Ok(())
 }
@@ -366,16 +468,18 @@ fn check_entry(
     alloc: Global,
     program: &Program,
     file: &ClassFile,
+    own: &[u16],
     allowed: &[bool],
     entry: &TableItem,
 ) -> Result<(), LinkErr>
     requires allowed { AreRight (no_access_item program.now file.now) file.now.pool allowed.now }
+    requires own { own.now ≡ package_of (this_name file.now) }
     ensures { IsAnswer (no_access_entry program.now file.now entry.now) result }
 {
     if entry.class == 0 {
         Ok(())
     } else {
-        check_item(alloc, program, file, allowed, entry.class)
+        check_item(alloc, program, file, own, allowed, entry.class)
     }
 }
 
@@ -384,14 +488,16 @@ fn check_table(
     alloc: Global,
     program: &Program,
     file: &ClassFile,
+    own: &[u16],
     allowed: &[bool],
     table: &[TableItem],
 ) -> Result<(), LinkErr>
     requires allowed { AreRight (no_access_item program.now file.now) file.now.pool allowed.now }
+    requires own { own.now ≡ package_of (this_name file.now) }
     ensures { IsAnswer (flat_map (no_access_entry program.now file.now) table.now) result }
 {
     for entry in table {
-        check_entry(alloc, program, file, allowed, entry)?;
+        check_entry(alloc, program, file, own, allowed, entry)?;
     }
     Ok(())
 }
@@ -402,6 +508,7 @@ fn check_method(
     resolver: &Resolver,
     number: u32,
     file: &ClassFile,
+    near: &Near<'_>,
     items: &[Option<Found>],
     allowed: &[bool],
     method: &MethodItem,
@@ -411,10 +518,27 @@ fn check_method(
     requires inside { number < length resolver.now }
     requires items { AreItems resolver.now file.now.pool items.now }
     requires allowed { AreRight (no_access_item resolver.now file.now) file.now.pool allowed.now }
+    requires near { IsNear resolver.now file.now near.now }
     ensures { IsAnswer (no_access_in resolver.now number file.now method.now) result }
 {
-    check_ops(alloc, resolver, number, file, items, allowed, ops(code))?;
-    check_table(alloc, resolver.program(), file, allowed, table(method))
+    check_ops(
+        alloc,
+        resolver,
+        number,
+        file,
+        near,
+        items,
+        allowed,
+        ops(code),
+    )?;
+    check_table(
+        alloc,
+        resolver.program(),
+        file,
+        near.own,
+        allowed,
+        table(method),
+    )
 }
 
 #[tactic(auto, using(link_rules::proofs::Firsts::places_break), unfolding(crate::specs::Uses::no_access))]
@@ -422,20 +546,25 @@ fn check_file(
     alloc: Global,
     resolver: &Resolver,
     number: u32,
+    packages: &Packages<'_>,
     file: &ClassFile,
     codes: &[Option<Code>],
 ) -> Result<(), LinkErr>
+    requires packages { ArePackages resolver.now packages.now }
     requires codes { codes.now ≡ codes_of file.now }
     requires inside { number < length resolver.now }
     ensures { IsAnswer (no_access resolver.now number file.now) result }
 {
     let items = file_items(alloc, resolver, file)?;
-    let allowed = allowed_texts(alloc, resolver.program(), file)?;
+    let near = near_to(resolver.program(), packages, file);
+    let allowed = allowed_texts(alloc, resolver.program(), file, near.own)?;
     let (found, allowed) = (items.as_slice(), allowed.as_slice());
     let methods = file.methods.as_slice();
     for i in 0..methods.len() {
         let (method, code) = (&methods[i], &codes[i]);
-        check_method(alloc, resolver, number, file, found, allowed, method, code)?;
+        check_method(
+            alloc, resolver, number, file, &near, found, allowed, method, code,
+        )?;
     }
     Ok(())
 }
@@ -454,9 +583,17 @@ pub fn check_access(
     requires few { length resolver.now < 2 ^ 25 }
     ensures { IsAnswer (numbered (no_access resolver.now) first files.now) result }
 {
+    let packages = Packages::new(alloc, resolver.program())?;
     let mut number = first;
     for i in 0..files.len() {
-        check_file(alloc, resolver, number, &files[i], codes[i].as_slice())?;
+        check_file(
+            alloc,
+            resolver,
+            number,
+            &packages,
+            &files[i],
+            codes[i].as_slice(),
+        )?;
         number += 1;
     }
     Ok(())

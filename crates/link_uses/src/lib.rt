@@ -8,6 +8,7 @@ mod kinds;
 mod lookup;
 mod missing;
 mod owned;
+mod packages;
 mod text_numbers;
 mod told;
 mod walk;
