@@ -2,6 +2,7 @@ pub mod EndLaws
 pub mod Judged
 pub mod LoadLemmas
 pub mod OneVerdict
+pub mod ReplayLoop
 pub mod RunLaws
 pub mod RunLoop
 pub mod Statuses

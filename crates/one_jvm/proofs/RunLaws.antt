@@ -1,12 +1,18 @@
--- Runs: one after another, their one last state, and output that only grows.
-use Rattle.std.proofs.Common.{◌≡◌, ℕ, List, [], ◌∷◌, ◌++◌, Option, Some, None, refl, sym, ap, subst, ◌∙◌, append-nil, append_assoc}
+-- Runs: one after another, their one last state, and output that only grows; what a sink gains of it.
+use Rattle.std.proofs.Common.{◌≡◌, ℕ, ◌+◌, ◌≤◌, List, [], ◌∷◌, ◌++◌, length, take, drop, Option, Some, None, refl, sym, ap, subst, ◌∙◌, append-nil, append_assoc, arith}
 use Rattle.std.specs.Prelude.{slice_get, slice_set}
+use Rattle.std.specs.Io.KnownBytes.{Appends}
+use Rattle.std.proofs.lemmas.List.{length-append}
+use Rattle.std.proofs.Math.Seq.{take-append-add, take-length, drop-append_seam}
+use Rattle.cjvm_io.specs.Sinks.{GainsFront}
+use Rattle.cjvm_io.proofs.Gains.{appends_none, appends_more}
 use Rattle.jvm_base.specs.Words.{from}
 use Rattle.program_image.specs.Program.{Program}
 use Rattle.machine_state.specs.declared.state.Choice.{Choice}
 use Rattle.machine_state.specs.declared.state.ThreadState.{ThreadState}
 use Rattle.machine_state.specs.Changes.{Change, Made, SetsField, SetsElement, SetsContent, Owned, Freed, Sleeps, Moved, MovedAll, Becomes, Started, Lost, Printed, change, changed}
 use Rattle.machine_state.specs.Runs.{run}
+use Rattle.machine_state.specs.Start.{start}
 use Rattle.machine_state.specs.State.{State}
 use Rattle.machine_state.specs.Step.{Taken, after, moved_on, taken_by, step, step_of}
 use Rattle.machine_state.proofs.NameTests.{some_is}
@@ -34,6 +40,11 @@ pub one_last : (p : Program) (m k l : State) (order : List Choice) → run p m o
 one_last p m k l order e f = some_is (sym e ∙ f)
 
 -- ---- output
+
+-- nothing was printed before the first step
+pub start_silent : (p : Program) (args : List (List ℕ)) → (start p args).output ≡ []
+unfolding start
+start_silent p args = refl
 
 -- more was printed
 pub record Grows (m l : State) : Type 0 where
@@ -98,3 +109,37 @@ run_grows p m l (c ∷ cs) e = by_step (step p m c) refl e (λ next f. run_grows
     by_step : (o : Option State) → step p m c ≡ o → from None (λ next. run p next cs) o ≡ Some l → ((next : State) → run p next cs ≡ Some l → Grows next l) → Grows m l
     by_step None d f g = absurd cc
     by_step (Some next) d f g = grows_on m next l (step_grows p m next c d) (g next f)
+
+-- what was printed stands behind what was there
+pub printed_behind : (m l : State) (g : Grows m l) (written : ℕ) → written ≡ length m.output → drop written l.output ≡ g.printed
+printed_behind m l g written e =
+    ap (λ (n : ℕ). drop n l.output) e ∙ ap (drop (length m.output)) g.output ∙ drop-append_seam m.output g.printed
+
+-- so there is as much at least
+pub grows_longer : (m l : State) → Grows m l → length m.output ≤ length l.output
+grows_longer m l g = omega (arith, ap length g.output, length-append m.output g.printed)
+
+-- ---- what a sink gained of it
+
+-- all of some bytes is a front of them
+pub whole_front : (before now : Option (List ℕ)) (bytes : List ℕ) → Appends before now bytes → GainsFront before now bytes
+whole_front before now bytes a = record {
+  count = length bytes;
+  within = omega arith;
+  gained = subst (λ (z : List ℕ). Appends before now z) (sym (take-length bytes)) a;
+}
+
+-- nothing is a front too
+pub no_front : (held : Option (List ℕ)) (bytes : List ℕ) → GainsFront held held bytes
+no_front held bytes = record { count = 0; within = omega arith; gained = appends_none held }
+
+-- some bytes, and a front of those behind them
+pub front_behind : (before mid now : Option (List ℕ)) (first more bytes : List ℕ) → bytes ≡ first ++ more → Appends before mid first → GainsFront mid now more → GainsFront before now bytes
+front_behind before mid now first more bytes e a g =
+    let n : ℕ = g.count in
+    let front : take (length first + n) bytes ≡ first ++ take n more = ap (take (length first + n)) e ∙ take-append-add first more n in
+    record {
+      count = length first + n;
+      within = omega (arith, g.within, ap length e, length-append first more);
+      gained = subst (λ (z : List ℕ). Appends before now z) (sym front) (appends_more before mid now first (take n more) a g.gained);
+    }

@@ -1,13 +1,10 @@
 -- The loop of a run.
-use Rattle.std.proofs.Common.{◌≡◌, ℕ, ◌+◌, ◌≤◌, List, [], ◌++◌, length, take, drop, Option, Some, None, refl, sym, ap, subst, ◌∙◌, inl, inr, arith}
-use Rattle.std.specs.Prelude.{option_map}
+use Rattle.std.proofs.Common.{◌≡◌, ℕ, ◌≤◌, List, [], ◌++◌, length, drop, Option, Some, None, Result, Ok, Err, refl, sym, ap, subst, ◌∙◌, arith}
+use Rattle.std.specs.Prelude.{option_map, Vec, IfOk}
 use Rattle.std.specs.Io.KnownBytes.{Appends}
-use Rattle.std.proofs.lemmas.List.{length-append}
-use Rattle.std.proofs.Math.Seq.{take-append-add, take-length, drop-append_seam}
 use Rattle.jvm_base.specs.declared.value.Uncaught.{Uncaught}
 use Rattle.machine_state.specs.declared.state.Choice.{Choice}
 use Rattle.machine_state.specs.Runs as runs
-use Rattle.machine_state.specs.Start.{start}
 use Rattle.machine_state.specs.State.{State}
 use Rattle.scheduler.specs.declared.run.Stop.{Stop as End}
 use Rattle.scheduler.specs.declared.run.Stop.TheVariants as end
@@ -21,8 +18,8 @@ use Rattle.one_jvm.specs.declared.running.Turns.{Turns}
 use Rattle.one_jvm.specs.Answers.{TellsEnd}
 use Rattle.one_jvm.specs.Outcomes.{ending_text}
 use Rattle.one_jvm.specs.Runs.{Job, start_of, LeadsTo, IsEnd, IsWhole, IsPart, RanTo}
-use Rattle.one_jvm.specs.Steps.RunSteps.{IsRunOf, Writes, Breaks, GoesTo, IsEndTold, TellsWhole, stop_of}
-use Rattle.one_jvm.proofs.RunLaws.{run_none, run_on, one_last, run_grows}
+use Rattle.one_jvm.specs.Steps.RunSteps.{IsRunOf, Writes, Breaks, GoesTo, TellsWhole, stop_of}
+use Rattle.one_jvm.proofs.RunLaws.{run_none, run_on, one_last, start_silent, run_grows, printed_behind, grows_longer, whole_front, no_front, front_behind}
 
 -- what holds each time the loop begins
 pub record GoesOn (j : Job) (turns : Turns) (before now : Option (List ℕ)) (faults_before faults : ℕ) : Type 0 where
@@ -33,15 +30,10 @@ pub record GoesOn (j : Job) (turns : Turns) (before now : Option (List ℕ)) (fa
 abbrev pub the_turns : Run → ℕ → Turns
 the_turns run written = record { run = run; written = written }
 
--- nothing was printed before the first step
-start_silent : (j : Job) → (start_of j).output ≡ []
-unfolding start
-start_silent j = refl
-
 -- the loop begins
 pub begins : (j : Job) (run : Run) (held : Option (List ℕ)) (faults : ℕ) → IsRun j.program run → run.machine.state ≡ start_of j → run.order ≡ [] → run.limit ≡ j.steps → GoesOn j (the_turns run 0) held held faults faults
 begins j run held faults is begun none limit =
-    let silent : run.machine.state.output ≡ [] = ap (λ (x : State). x.output) begun ∙ start_silent j in
+    let silent : run.machine.state.output ≡ [] = ap (λ (x : State). x.output) begun ∙ start_silent j.program j.args in
     record {
       run = record {
         run = is;
@@ -55,7 +47,7 @@ begins j run held faults is begun none limit =
 
 -- no run was begun, and nothing was written
 pub unbegun : (j : Job) (held : Option (List ℕ)) → IsPart j [] held held
-unbegun j held = record { last = start_of j; leads = run_none j.program (start_of j); written = record { count = 0; within = omega arith; gained = appends_none held } }
+unbegun j held = record { last = start_of j; leads = run_none j.program (start_of j); written = no_front held (start_of j).output }
 
 -- further steps lead on from the start
 leads_on : (j : Job) (m l : State) (before after : List Choice) → LeadsTo j before m → LeadsOn j.program m before after l → LeadsTo j after l
@@ -63,9 +55,7 @@ leads_on j m l before after b h = ap (λ (o : List Choice). runs.run j.program (
 
 -- all that is printed fits behind what was written
 pub grown : (j : Job) (m l : State) (before after : List Choice) → LeadsOn j.program m before after l → length m.output ≤ length l.output
-grown j m l before after h =
-    let g = run_grows j.program m l h.more h.leads in
-    omega (arith, ap length g.output, length-append m.output g.printed)
+grown j m l before after h = grows_longer m l (run_grows j.program m l h.more h.leads)
 
 -- ---- a turn
 
@@ -78,7 +68,7 @@ lost j old new held o h =
       leads = leads_on j old.run.machine.state h.last old.run.order new.run.order o.leads h.leads;
       printed = g.printed;
       output = g.output;
-      gained = record { count = 0; within = omega arith; gained = appends_none held };
+      gained = no_front held g.printed;
     }
 
 module _ (j : Job) (old new : Turns) (is : IsRunOf j old) (leads : LeadsOn j.program old.run.machine.state old.run.order new.run.order new.run.machine.state) where
@@ -91,9 +81,7 @@ module _ (j : Job) (old new : Turns) (is : IsRunOf j old) (leads : LeadsOn j.pro
 
   -- is the part of the output that wasn't written
   unwritten : drop old.written new.run.machine.state.output ≡ since
-  unwritten =
-      ap (λ (n : ℕ). drop n new.run.machine.state.output) is.written
-      ∙ ap (drop (length old.run.machine.state.output)) since_is ∙ drop-append_seam old.run.machine.state.output since
+  unwritten = printed_behind old.run.machine.state new.run.machine.state (run_grows j.program old.run.machine.state new.run.machine.state leads.more leads.leads) old.written is.written
 
   goes_on : LeadsTo j new.run.order new.run.machine.state
   goes_on = leads_on j old.run.machine.state new.run.machine.state old.run.order new.run.order is.leads leads
@@ -145,21 +133,11 @@ turned j old new before mid now f g h o w l = record {
 
 -- in a turn that a fault cut off
 pub broken : (j : Job) (old new : Turns) (before mid now : Option (List ℕ)) (f g : ℕ) → GoesOn j old before mid f g → Breaks j old new mid now → IsPart j new.run.order before now
-broken j old new before mid now f g o b =
-    let out : List ℕ = old.run.machine.state.output in
-    let n : ℕ = b.gained.count in
-    let front : take (length out + n) b.last.output ≡ out ++ take n b.printed =
-    ap (take (length out + n)) b.output ∙ take-append-add out b.printed n in
-    let all = appends_more before mid now out (take n b.printed) o.gained b.gained.gained in
-    record {
-      last = b.last;
-      leads = b.leads;
-      written = record {
-        count = length out + n;
-        within = omega (arith, b.gained.within, ap length b.output, length-append out b.printed);
-        gained = subst (λ (bytes : List ℕ). Appends before now bytes) (sym front) all;
-      };
-    }
+broken j old new before mid now f g o b = record {
+  last = b.last;
+  leads = b.leads;
+  written = front_behind before mid now old.run.machine.state.output b.printed b.last.output b.output o.gained b.gained;
+}
 
 -- at the end of the run
 whole : (j : Job) (turns : Turns) (before now : Option (List ℕ)) (f h : ℕ) (s : Stop) → GoesOn j turns before now f h → IsEnd j turns.run.machine.state s → IsWhole j turns.run.order s before now
@@ -167,13 +145,11 @@ whole j turns before now f h s o e = record { last = turns.run.machine.state; le
 
 -- or anywhere before
 pub part : (j : Job) (turns : Turns) (before now : Option (List ℕ)) (f h : ℕ) → GoesOn j turns before now f h → IsPart j turns.run.order before now
-part j turns before now f h o =
-    let out : List ℕ = turns.run.machine.state.output in
-    record {
-      last = turns.run.machine.state;
-      leads = o.run.leads;
-      written = record { count = length out; within = omega arith; gained = subst (λ (bytes : List ℕ). Appends before now bytes) (sym (take-length out)) o.gained };
-    }
+part j turns before now f h o = record {
+  last = turns.run.machine.state;
+  leads = o.run.leads;
+  written = whole_front before now turns.run.machine.state.output o.gained;
+}
 
 -- where that was a write
 pub broken_write : (j : Job) (old new : Turns) (before mid now : Option (List ℕ)) (f g h : ℕ) → GoesOn j old before mid f g → (Breaks j old new mid now × Rose g h) → IsPart j new.run.order before now × Rose f h
@@ -197,7 +173,7 @@ ran_whole j order stop.WriteFault before now last e w = absurd e
 ran_whole j order stop.NoMemory before now last e w = absurd e
 
 -- what it tells
-tells_whole : (j : Job) (order : List Choice) (s : Stop) (text : List ℕ) (last : State) → IsEnd j last s → TellsEnd j order s text → TellsWhole j order s text
+tells_whole : {A E : Type 0} (j : Job) (order : List Choice) (s : Stop) (text : Result (Vec ℕ A) E) (last : State) → IsEnd j last s → IfOk text (λ v. TellsEnd j order s v.items) → TellsWhole j order s text
 tells_whole j order stop.Done text last e t = t
 tells_whole j order stop.Uncaught text last e t = t
 tells_whole j order (stop.StepLimit k) text last e t = t
@@ -206,25 +182,38 @@ tells_whole j order (stop.ThreadsFull k) text last e t = t
 tells_whole j order stop.WriteFault text last e t = absurd e
 tells_whole j order stop.NoMemory text last e t = absurd e
 
-module _ (j : Job) (turns : Turns) (order : List Choice) (s : Stop) (text : List ℕ) (before now : Showing) (f h : ℕ)
-    (o : GoesOn j turns before.held now.held f h) (e : IsEnd j turns.run.machine.state s) (same : order ≡ turns.run.order) where
-  -- where its text was made, and where memory ran out for that
-  ran_by : (result : Stop) → IsEndTold j.program turns.run.machine.state.uncaught s result text → RanTo j turns.run.order before now result
-  ran_by result (inl t) = subst (RanTo j turns.run.order before now) (sym t.0) (ran_whole j turns.run.order s before now turns.run.machine.state e (whole j turns before.held now.held f h s o e))
-  ran_by result (inr t) = subst (RanTo j turns.run.order before now) (sym t.0) (part j turns before.held now.held f h o)
+module _ (j : Job) (turns : Turns) (order : List Choice) (s result : Stop) (before now : Showing) (f h : ℕ)
+    (o : GoesOn j turns before.held now.held f h) (e : IsEnd j turns.run.machine.state s) (same : order ≡ turns.run.order) (is : result ≡ s) where
+  pub ended_ran : RanTo j order before now result
+  ended_ran = cut_ran j turns.run.order order s result before now same is (ran_whole j turns.run.order s before now turns.run.machine.state e (whole j turns before.held now.held f h s o e))
 
-  tells_by : (result : Stop) → IsEndTold j.program turns.run.machine.state.uncaught s result text → TellsWhole j turns.run.order result text
-  tells_by result (inl t) = subst (λ (x : Stop). TellsWhole j turns.run.order x text) (sym t.0) (tells_whole j turns.run.order s text turns.run.machine.state e (record { last = turns.run.machine.state; leads = o.run.leads; is = t.1 }))
-  tells_by result (inr t) = subst (λ (x : Stop). TellsWhole j turns.run.order x text) (sym t.0) t.1
+  -- its text, where memory lasted for it
+  pub ended_tells : {A E : Type 0} (text : Result (Vec ℕ A) E) → IfOk text (λ v. v.items ≡ ending_text j.program s turns.run.machine.state.uncaught) → TellsWhole j order result text
+  ended_tells text t = subst (λ (x : Stop). TellsWhole j order x text) (sym is) (tells_whole j order s text turns.run.machine.state e (by_text text t))
+    where
+      by_text : {A E : Type 0} (text : Result (Vec ℕ A) E) → IfOk text (λ v. v.items ≡ ending_text j.program s turns.run.machine.state.uncaught) → IfOk text (λ v. TellsEnd j order s v.items)
+      by_text (Ok v) t = record { last = turns.run.machine.state; leads = subst (λ (x : List Choice). LeadsTo j x turns.run.machine.state) (sym same) o.run.leads; is = t }
+      by_text (Err x) t = tt
 
-  pub ended_ran : (result : Stop) → IsEndTold j.program turns.run.machine.state.uncaught s result text → RanTo j order before now result
-  ended_ran result t = subst (λ (x : List Choice). RanTo j x before now result) (sym same) (ran_by result t)
+  -- nothing is uncaught where all is done
+  pub ended_quiet : result ≡ stop.Done → (s ≡ stop.Done) × (turns.run.machine.state.uncaught ≡ [])
+  ended_quiet d =
+      let done : s ≡ stop.Done = sym is ∙ d in
+      let there : IsEnd j turns.run.machine.state stop.Done = subst (λ (x : Stop). IsEnd j turns.run.machine.state x) done e in
+      (done, there.1)
 
-  pub ended_tells : (result : Stop) → IsEndTold j.program turns.run.machine.state.uncaught s result text → TellsWhole j order result text
-  ended_tells result t = subst (λ (x : List Choice). TellsWhole j x result text) (sym same) (tells_by result t)
+-- a run's order leads on
+pub ran_leads : (j : Job) (order : List Choice) (before now : Showing) (s : Stop) → RanTo j order before now s → (last : State) × LeadsTo j order last
+ran_leads j order before now stop.Done r = (r.last, r.leads)
+ran_leads j order before now stop.Uncaught r = (r.last, r.leads)
+ran_leads j order before now (stop.StepLimit t) r = (r.last, r.leads)
+ran_leads j order before now stop.Deadlock r = (r.last, r.leads)
+ran_leads j order before now (stop.ThreadsFull t) r = (r.last, r.leads)
+ran_leads j order before now stop.WriteFault r = (r.0.last, r.0.leads)
+ran_leads j order before now stop.NoMemory r = (r.last, r.leads)
 
 -- a run all of whose threads have ended without an exception tells nothing
-pub done_silent : (j : Job) (order : List Choice) (before now : Showing) (text : List ℕ) → RanTo j order before now stop.Done → TellsWhole j order stop.Done text → text ≡ []
+pub done_silent : (j : Job) (order : List Choice) (before now : Showing) (text : List ℕ) → RanTo j order before now stop.Done → TellsEnd j order stop.Done text → text ≡ []
 done_silent j order before now text r t =
     let same : t.last ≡ r.last = one_last j.program (start_of j) t.last r.last order t.leads r.leads in
     let none : t.last.uncaught ≡ [] = ap (λ (x : State). x.uncaught) same ∙ r.ended.1 in

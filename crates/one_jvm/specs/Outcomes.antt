@@ -20,7 +20,7 @@ use Rattle.flow_verifier.specs.declared.answer.FlowErr.{FlowErr}
 use Rattle.one_jvm.specs.declared.outcome.Stop.{Stop}
 use Rattle.one_jvm.specs.declared.outcome.Stop.TheVariants as stop
 use Rattle.one_jvm.specs.declared.outcome.Refusal.{Refusal}
-use Rattle.one_jvm.specs.declared.outcome.Refusal.TheVariants.{Usage, File, Link, Flow, NoFile, ReadFault, WriteFault, TooLong}
+use Rattle.one_jvm.specs.declared.outcome.Refusal.TheVariants.{Usage, File, Link, Flow, NoFile, ReadFault, WriteFault, TooLong, BadOrder, NotEnabled, EarlyOrder}
 use Rattle.one_jvm.specs.declared.outcome.Refusal.TheVariants as refusals
 
 -- the exit status of a refusal; 0 where there is none
@@ -34,9 +34,12 @@ status_of (Some (NoFile k)) = 4
 status_of (Some (ReadFault k)) = 5
 status_of (Some WriteFault) = 6
 status_of (Some (TooLong k)) = 11
+status_of (Some (BadOrder line)) = 12
+status_of (Some (NotEnabled number)) = 12
+status_of (Some EarlyOrder) = 13
 status_of (Some refusals.NoMemory) = 20
 
--- the exit status of a call that isn't refused: that of the end of its run
+-- the exit status of a call that isn't refused: that of the end of its run or replay
 abbrev pub end_status : Option Stop → ℕ
 end_status None = 0
 end_status (Some stop.Done) = 0
@@ -121,7 +124,7 @@ accepted_text classes =
     codes "accepted " ++ decimal (length classes)
     ++ (codes " classes " ++ decimal (sum_by coded_methods classes) ++ (codes " methods" ++ 10 ∷ []))
 
--- ---- what is told of the end of a run
+-- ---- what is told of the end of a run or of a replay
 
 -- the name of the class of a number, as its file has it
 abbrev pub class_text : Program → ℕ → List ℕ
@@ -158,4 +161,8 @@ report subject (Some (NoFile k)) = codes "cjvm: no file " ++ subject ++ 10 ∷ [
 report subject (Some (ReadFault k)) = codes "cjvm: read fault " ++ subject ++ 10 ∷ []
 report subject (Some WriteFault) = codes "cjvm: write fault" ++ 10 ∷ []
 report subject (Some (TooLong k)) = codes "cjvm: file too long " ++ subject ++ 10 ∷ []
+report subject (Some (BadOrder line)) = codes "cjvm: bad order line " ++ decimal line ++ 10 ∷ []
+report subject (Some (NotEnabled number)) =
+    codes "cjvm: step " ++ decimal number ++ (codes " not enabled" ++ 10 ∷ [])
+report subject (Some EarlyOrder) = codes "cjvm: order ended early" ++ 10 ∷ []
 report subject (Some refusals.NoMemory) = codes "cjvm: want of memory" ++ 10 ∷ []

@@ -1,6 +1,7 @@
-//! What a report tells of the end of a run.
+//! What a report tells of the end of a run or of a replay.
 
-ghost use Rattle.std.specs.Prelude.{◌≡◌, ◌++◌, decimal, OnOk, IfOk};
+ghost use Rattle.std.specs.Prelude.{◌≡◌, [], ◌++◌, decimal, OnOk, IfOk};
+ghost use Rattle.std.specs.Result.{IsOk};
 ghost use Rattle.std.specs.List.{flat_map};
 ghost use Rattle.one_jvm.specs.declared.outcome.Stop.TheVariants.{StepLimit};
 ghost use Rattle.one_jvm.specs.Outcomes.{class_text, uncaught_text, stop_text, ending_text};
@@ -50,7 +51,8 @@ fn push_uncaught(
 
 /// The lines of exceptions that nothing caught.
 fn uncaught_lines(alloc: Global, image: &Image, uncaught: &[Uncaught]) -> Result<Vec<u8>, NoMemory>
-    ensures { IfOk result (λ v. v.items ≡ flat_map (uncaught_text image.now) uncaught.now) }
+    ensures lines { IfOk result (λ v. v.items ≡ flat_map (uncaught_text image.now) uncaught.now) }
+    ensures none { uncaught.now ≡ [] → IsOk result }
 {
     let mut bytes = Vec::new(alloc);
     for one in uncaught {
@@ -79,7 +81,8 @@ fn push_line(bytes: &mut Vec<u8>, line: &[u8]) -> Result<(), NoMemory>
 
 /// Adds the line of a run that ended before its threads did.
 fn push_stop(bytes: &mut Vec<u8>, stop: Stop) -> Result<(), NoMemory>
-    ensures { OnOk result (bytes.new.items ≡ bytes.old.items ++ stop_text stop) }
+    ensures line { OnOk result (bytes.new.items ≡ bytes.old.items ++ stop_text stop) }
+    ensures none { stop ≡ Stop.Done → IsOk result }
 {
     match stop {
         Stop::StepLimit { thread } => push_limit(bytes, thread),
@@ -89,14 +92,15 @@ fn push_stop(bytes: &mut Vec<u8>, stop: Stop) -> Result<(), NoMemory>
     }
 }
 
-/// What the end of a run tells.
+/// What the end of a run or a replay tells.
 pub(crate) fn ending_text(
     alloc: Global,
     image: &Image,
     stop: Stop,
     uncaught: &[Uncaught],
 ) -> Result<Vec<u8>, NoMemory>
-    ensures { IfOk result (λ v. v.items ≡ ending_text image.now stop uncaught.now) }
+    ensures text { IfOk result (λ v. v.items ≡ ending_text image.now stop uncaught.now) }
+    ensures none { stop ≡ Stop.Done → uncaught.now ≡ [] → IsOk result }
 {
     let mut bytes = uncaught_lines(alloc, image, uncaught)?;
     push_stop(&mut bytes, stop)?;

@@ -8,6 +8,7 @@ mod loading;
 mod main_class;
 mod outcome;
 mod process;
+mod replaying;
 mod report;
 mod running;
 mod top;

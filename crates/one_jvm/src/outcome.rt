@@ -49,9 +49,18 @@ pub enum Refusal {
     /// A write failed. Status 6.
     #[error("write fault")]
     WriteFault,
-    /// A file is longer than a class file may be. Status 11.
+    /// A file is longer than it may be. Status 11.
     #[error("file too long")]
     TooLong(u32),
+    /// The text of an order is none, and the line, from 1, of its first fault. Status 12.
+    #[error("bad order line {0}")]
+    BadOrder(u64),
+    /// A choice of an order isn't enabled: its number, from 1. Status 12.
+    #[error("step {0} not enabled")]
+    NotEnabled(u64),
+    /// Every choice of an order is enabled, and one more would be. Status 13.
+    #[error("order ended early")]
+    EarlyOrder,
     /// No memory was left. Status 20.
     #[error("want of memory")]
     NoMemory,
@@ -59,8 +68,9 @@ pub enum Refusal {
 
 /// What a call answers: a status for the caller's process; the order of all steps of the run, empty
 /// where none was begun; how the run ended, where one was begun; and what was refused, if anything.
-/// Nothing is refused where the status is 0, or that of the end of a run: 1 with exceptions that
-/// nothing caught, 8 at the limit on steps, 9 in a deadlock, 10 with too many threads.
+/// Nothing is refused where the status is 0, or that of the end of a run or a replay: 1 with exceptions
+/// that nothing caught, 8 at the limit on steps, 9 in a deadlock, 10 with too many threads. A replay
+/// begins no run.
 #[derive(Debug, Drop)]
 pub struct Outcome {
     pub status: u8,
@@ -82,7 +92,7 @@ pub(crate) fn place_of(refusal: &Refusal) -> Option<u32>
     }
 }
 
-/// The status of a call that isn't refused, by the end of its run.
+/// The status of a call that isn't refused, by the end of its run or replay.
 fn end_status(stop: Option<Stop>) -> u8
     ensures { result ≡ end_status stop }
 {
@@ -108,11 +118,13 @@ fn status_of(refusal: &Refusal) -> u8
         Refusal::ReadFault(_) => 5,
         Refusal::WriteFault => 6,
         Refusal::TooLong(_) => 11,
+        Refusal::BadOrder(_) | Refusal::NotEnabled(_) => 12,
+        Refusal::EarlyOrder => 13,
         Refusal::NoMemory => 20,
     }
 }
 
-/// The status of an outcome, by the end of its run and by what was refused.
+/// The status of an outcome, by the end of its run or replay and by what was refused.
 pub(crate) fn outcome_status(stop: Option<Stop>, refusal: &Option<Refusal>) -> u8
     ensures { result ≡ outcome_status stop refusal.now }
 {

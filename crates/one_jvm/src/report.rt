@@ -103,6 +103,21 @@ fn write_refused<E: Sink>(err: &mut E, name: &[u8], why: ClassErr) -> Result<(),
     write_why(err, why)
 }
 
+/// Writes a line of a front, a number and what follows it.
+fn write_count<E: Sink>(
+    err: &mut E,
+    front: &[u8],
+    number: u64,
+    behind: &[u8],
+) -> Result<(), Failed>
+    ensures bytes { GainsAll (E.held err.old) (E.held err.new)
+        (front.now ++ decimal number ++ behind.now) result }
+    ensures cause { HasCause (E.faults err.old) (E.faults err.new) result }
+{
+    write_number(err, front, number)?;
+    write_all(err, behind)
+}
+
 /// Writes the report of a refusal, by the name of its file or by what it tells of class files.
 pub(crate) fn write_refusal<E: Sink>(
     err: &mut E,
@@ -121,6 +136,9 @@ pub(crate) fn write_refusal<E: Sink>(
         Refusal::ReadFault(_) => write_line(err, b"cjvm: read fault ", subject),
         Refusal::WriteFault => write_all(err, b"cjvm: write fault\n"),
         Refusal::TooLong(_) => write_line(err, b"cjvm: file too long ", subject),
+        Refusal::BadOrder(line) => write_count(err, b"cjvm: bad order line ", *line, b"\n"),
+        Refusal::NotEnabled(step) => write_count(err, b"cjvm: step ", *step, b" not enabled\n"),
+        Refusal::EarlyOrder => write_all(err, b"cjvm: order ended early\n"),
         Refusal::NoMemory => write_all(err, b"cjvm: want of memory\n"),
     }
 }

@@ -1,16 +1,19 @@
 //! A run of a program on the one machine.
 
-ghost use Rattle.std.specs.Prelude.{◌≡◌, ◌≤◌, ℕ, List, [], length, option_map};
+ghost use Rattle.std.specs.Prelude.{◌≡◌, ◌≤◌, ℕ, List, [], length, option_map, IfOk};
+ghost use Rattle.std.specs.Result.{IsOk};
 ghost use Rattle.one_machine.specs.Ready.{CanRun};
 ghost use Rattle.cjvm_io.specs.Sinks.{shown};
+ghost use Rattle.one_jvm.specs.Outcomes.{ending_text};
 ghost use Rattle.one_jvm.specs.Runs.{RanTo, job_of};
 ghost use Rattle.one_jvm.specs.Steps.Parts.{asked_by};
-ghost use Rattle.one_jvm.specs.Steps.RunSteps.{stop_of, IsEndTold, TellsWhole};
+ghost use Rattle.one_jvm.specs.Steps.RunSteps.{stop_of, TellsWhole};
 
 use crate::ending::ending_text;
 use crate::outcome::Stop;
 use crate::words::Request;
 use cjvm_io::{Sink, write_all};
+use jvm_base::NoMemory;
 use machine_state::Order;
 use program_image::Image;
 use scheduler::{Run, Stop as End};
@@ -22,7 +25,7 @@ const ORDER_LIMIT: u64 = 4_294_967_296;
 
 /// Why a run goes no further.
 #[derive(Clone, Copy, Debug, PartialEq, Eq, Error)]
-enum Broken {
+pub(crate) enum Broken {
     #[error("write fault")]
     WriteFault,
     #[error("want of memory")]
@@ -59,39 +62,41 @@ fn stop_at(end: Option<End>) -> Option<Stop>
     }
 }
 
-/// What a run left: the order of its steps, how it ended, and what that tells.
+/// What a run left: the order of its steps, how it ended, and what that tells, unless memory ran out
+/// for it.
 #[derive(Drop)]
 pub(crate) struct RunEnd {
     pub(crate) order: Order,
     pub(crate) stop: Stop,
-    pub(crate) text: Vec<u8>,
+    pub(crate) text: Result<Vec<u8>, NoMemory>,
 }
 
 /// A run that a fault cut off.
 fn cut_off(alloc: Global, order: Order, stop: Stop) -> RunEnd
     ensures order { result.order ≡ order }
     ensures stop { result.stop ≡ stop }
-    ensures text { result.text.items ≡ [] }
+    ensures text { IsOk result.text }
 {
     RunEnd {
         order,
         stop,
-        text: Vec::new(alloc),
+        text: Ok(Vec::new(alloc)),
     }
 }
 
 /// A run that came to its end.
 fn end_run(alloc: Global, image: &Image, run: Run, stop: Stop) -> RunEnd
     ensures order { result.order ≡ run.order }
-    ensures told { IsEndTold image.now run.machine.state.uncaught stop result.stop result.text.items }
+    ensures stop { result.stop ≡ stop }
+    ensures told { IfOk result.text
+        (λ v. v.items ≡ ending_text image.now stop run.machine.state.uncaught) }
+    ensures quiet { stop ≡ Stop.Done → run.machine.state.uncaught ≡ [] → IsOk result.text }
 {
-    match ending_text(alloc, image, stop, run.uncaught()) {
-        Ok(text) => RunEnd {
-            order: run.into_order(),
-            stop,
-            text,
-        },
-        Err(_) => cut_off(alloc, run.into_order(), Stop::NoMemory),
+    let text = ending_text(alloc, image, stop, run.uncaught());
+    RunEnd {
+        order: run.into_order(),
+        stop,
+        text,
     }
 }
 
@@ -140,7 +145,8 @@ pub(crate) fn run_program<O: Sink>(
     ensures ran { RanTo (job_of image.now (asked_by request.now)) result.order
         (shown O.held O.faults out.old) (shown O.held O.faults out.new) result.stop }
     ensures told { TellsWhole (job_of image.now (asked_by request.now)) result.order result.stop
-        result.text.items }
+        result.text }
+    ensures quiet { result.stop ≡ Stop.Done → IsOk result.text }
     ensures later { O.faults out.old ≤ O.faults out.new }
 {
     let Ok(run) = Run::new(alloc, image, request.strings(), request.steps()) else {

@@ -1,32 +1,26 @@
 //! The words of a call.
 
-ghost use Rattle.std.specs.Prelude.{◌≡◌, [], length, map, option_map, Some, None, IfOk, MatchResult};
+ghost use Rattle.std.specs.Prelude.{◌≡◌, [], length, map, option_map, IfOk, MatchResult};
 ghost use Rattle.command_words.specs.Reading.{line_of_words};
-ghost use Rattle.one_jvm.specs.Words.{command_in, split_from, strings_in, asked_in, IsCall, IsNoCall, name_at, texts};
+ghost use Rattle.one_jvm.specs.Words.{strings_of, strings_in, asked_in, IsCall, IsNoCall, name_at, texts};
 ghost use Rattle.one_jvm.specs.Steps.Parts.{IsMisread, IsNamedBy, asked_by};
 ghost use Rattle.std.specs.Str.{chars};
 
 use crate::main_class::push_char;
 use crate::outcome::{Refusal, place_of};
-use command_words::{Command as Word, Words, WordsErr};
+use command_words::{Command, Words, WordsErr};
 use jvm_base::{List, NoMemory, Units};
 use std::alloc::Global;
 
-/// What a call does with its files: it runs their program, or says whether it is accepted.
-#[derive(Clone, Copy, PartialEq, Eq)]
-pub(crate) enum Command {
-    Run,
-    Check,
-}
-
 /// What the words of a call ask for: a command, the main class, where they name it, the strings for
-/// `main`, how many steps each thread may take, and files.
+/// `main`, how many steps each thread may take, whether the order is to be shown, and files.
 #[derive(Drop)]
 pub(crate) struct Request<'a> {
     command: Command,
     main: Option<&'a str>,
     args: List<Units>,
     steps: u32,
+    shows: bool,
     files: Vec<&'a str>,
 }
 
@@ -59,6 +53,13 @@ impl<'a> Request<'a> {
         self.steps as u64
     }
 
+    /// Whether the order of the steps is to be shown.
+    pub(crate) fn shows(&self) -> bool
+        ensures { result ≡ (asked_by self.now).shows }
+    {
+        self.shows
+    }
+
     /// How many files there are.
     pub(crate) fn count(&self) -> usize
         ensures { result ≡ length (asked_by self.now).files }
@@ -77,20 +78,9 @@ impl<'a> Request<'a> {
     }
 }
 
-/// What a line's command does.
-fn command_in(command: Word) -> Option<Command>
-    ensures { result ≡ command_in command }
-{
-    match command {
-        Word::Run => Some(Command::Run),
-        Word::Check => Some(Command::Check),
-        Word::Replay => None,
-    }
-}
-
 /// The strings of a text, between its commas.
 fn split(alloc: Global, text: &str) -> Result<List<Units>, NoMemory>
-    ensures { IfOk result (λ strings. strings ≡ split_from [] (chars text.now)) }
+    ensures { IfOk result (λ strings. strings ≡ strings_of (chars text.now)) }
 {
     let mut strings = List::new(alloc);
     let mut last = Units::new(alloc);
@@ -117,25 +107,16 @@ fn strings_in(alloc: Global, text: Option<&str>) -> Result<List<Units>, NoMemory
 }
 
 /// What a line asks for.
-fn request_of<'a>(alloc: Global, line: Words<'a>) -> Result<Request<'a>, Refusal>
-    ensures { MatchResult result
-        (λ r. asked_in (line_of_words line.entry) ≡ Some (asked_by r))
-        (IsMisread (asked_in (line_of_words line.entry) ≡ None)) }
+fn request_of<'a>(alloc: Global, line: Words<'a>) -> Result<Request<'a>, NoMemory>
+    ensures { IfOk result (λ r. asked_in (line_of_words line.entry) ≡ asked_by r) }
 {
-    let Some(command) = command_in(line.command) else {
-        return Err(Refusal::Usage);
-    };
-    if line.shows_order {
-        return Err(Refusal::Usage);
-    }
-    let Ok(args) = strings_in(alloc, line.args) else {
-        return Err(Refusal::NoMemory);
-    };
+    let args = strings_in(alloc, line.args)?;
     Ok(Request {
-        command,
+        command: line.command,
         main: line.main,
         args,
         steps: line.steps,
+        shows: line.shows_order,
         files: line.files,
     })
 }
@@ -145,11 +126,12 @@ pub(crate) fn read_words<'a>(alloc: Global, words: &'a [String]) -> Result<Reque
     ensures { MatchResult result (λ r. IsCall (texts words.entry.now) (asked_by r))
         (IsMisread (IsNoCall (texts words.entry.now))) }
 {
-    match command_words::read_words(alloc, words) {
-        Ok(line) => request_of(alloc, line),
-        Err(WordsErr::Usage) => Err(Refusal::Usage),
-        Err(WordsErr::NoMemory) => Err(Refusal::NoMemory),
-    }
+    let line = match command_words::read_words(alloc, words) {
+        Ok(line) => line,
+        Err(WordsErr::Usage) => return Err(Refusal::Usage),
+        Err(WordsErr::NoMemory) => return Err(Refusal::NoMemory),
+    };
+    request_of(alloc, line).map_err(|_| Refusal::NoMemory)
 }
 
 /// The name of the file that a refusal names by its place; empty where it names none.

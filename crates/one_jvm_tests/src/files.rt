@@ -58,16 +58,26 @@ pub fn changed_file(alloc: Global, at: usize, byte: u8) -> Result<Vec<u8>, Alloc
 
 /// Calls with these words, where the shelf has a file A.class, and the class B in B.class.
 pub fn call(alloc: Global, words: &[&str], file: Vec<u8>, fails: Fails) -> Result<Left, Fail> {
-    let mut texts = Vec::new(alloc);
-    for word in words {
-        texts.push(String::from_str(alloc, word)?)?;
-    }
     let mut files = Vec::new(alloc);
     files.push((String::from_str(alloc, "A.class")?, file))?;
     files.push((
         String::from_str(alloc, "B.class")?,
         changed_file(alloc, 13, b'B')?,
     ))?;
+    call_on(alloc, words, files, fails)
+}
+
+/// Calls with these words, where the shelf has these files.
+pub fn call_on(
+    alloc: Global,
+    words: &[&str],
+    files: Vec<(String, Vec<u8>)>,
+    fails: Fails,
+) -> Result<Left, Fail> {
+    let mut texts = Vec::new(alloc);
+    for word in words {
+        texts.push(String::from_str(alloc, word)?)?;
+    }
     let mut shelf = MemShelf::new(files, Vec::from_slice(alloc, &[fails.shelf])?);
     let mut out = VecSink::new(alloc, 1000, 3, Vec::from_slice(alloc, &[fails.out])?)?;
     let mut err = VecSink::new(alloc, 1000, 5, Vec::from_slice(alloc, &[fails.err])?)?;

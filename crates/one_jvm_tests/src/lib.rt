@@ -9,3 +9,5 @@ mod checks;
 mod files;
 #[cfg(test)]
 mod options;
+#[cfg(test)]
+mod replay;

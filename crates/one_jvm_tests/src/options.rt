@@ -102,7 +102,7 @@ fn takes_files_behind_dashes(rt: HostRuntime) -> Result<(), Fail> {
 #[test]
 fn refuses_options(rt: HostRuntime) -> Result<(), Fail> {
     let alloc = rt.alloc();
-    let rows: [&[&str]; 14] = [
+    let rows: [&[&str]; 16] = [
         &["run", "--steps", "5", "--steps", "5", "A.class"],
         &["run", "--args", "a", "A.class", "--args", "b"],
         &["run", "--main=A", "--main=A", "A.class"],
@@ -115,9 +115,10 @@ fn refuses_options(rt: HostRuntime) -> Result<(), Fail> {
         &["check", "--args", "a", "A.class"],
         &["check", "--steps", "5", "A.class"],
         &["run", "--help", "A.class"],
-        // These have words, but are no calls yet.
-        &["run", "--show", "order", "A.class"],
-        &["replay", "A.class", "A.class"],
+        &["run", "--show", "steps", "A.class"],
+        &["check", "--show", "order", "A.class"],
+        &["replay", "A.class"],
+        &["replay", "--steps", "5", "A.class", "A.class"],
     ];
     for words in rows {
         let file = file_of(alloc, TAIL.as_slice())?;

@@ -1,5 +1,6 @@
 -- What the words ask for, as it is kept.
-use Rattle.std.specs.Prelude.{◌≡◌, ◌⊎◌, ℕ, List, map, option_map, Some}
+use Rattle.std.specs.Prelude.{◌≡◌, ◌⊎◌, ℕ, true, List, length, map, option_map, Some}
+use Rattle.command_words.specs.Lines.{is_count}
 use Rattle.one_jvm.specs.declared.outcome.Refusal.{Refusal}
 use Rattle.one_jvm.specs.declared.outcome.Refusal.TheVariants.{Usage, NoMemory}
 use Rattle.one_jvm.specs.declared.words.Request.{Request}
@@ -13,8 +14,13 @@ asked_by r = record {
   main = option_map (λ m. m.now) r.main;
   args = r.args;
   steps = r.steps;
+  shows = r.shows;
   files = map (λ f. f.now) r.files.items;
 }
+
+-- there are as many files as its command may have
+abbrev pub IsCounted : Asked → Type 0
+IsCounted asked = is_count asked.command (length asked.files) ≡ true
 
 -- it is no usage, as the words ask for nothing; or memory ran out
 abbrev pub IsMisread : Type 0 → Refusal → Type 0

@@ -1,12 +1,10 @@
 -- A run that is going on.
-use Rattle.std.specs.Prelude.{◌≡◌, ◌⊎◌, ℕ, ◌<◌, ◌++◌, List, [], length, Option, Some, None, Result, Ok, Err}
+use Rattle.std.specs.Prelude.{◌≡◌, ℕ, ◌<◌, ◌++◌, List, [], length, Vec, IfOk, Option, Some, None, Result, Ok, Err}
 use Rattle.std.specs.Io.KnownBytes.{Appends}
 use Rattle.cjvm_io.specs.Faults.{Rose}
 use Rattle.cjvm_io.specs.Sinks.{Showing, GainsFront}
-use Rattle.jvm_base.specs.declared.value.Uncaught.{Uncaught}
 use Rattle.machine_state.specs.declared.state.Choice.{Choice}
 use Rattle.machine_state.specs.State.{State}
-use Rattle.program_image.specs.Program.{Program}
 use Rattle.scheduler.specs.declared.run.Stop.{Stop as End}
 use Rattle.scheduler.specs.declared.run.Stop.TheVariants as ends
 use Rattle.scheduler.specs.Running.{IsRun}
@@ -15,8 +13,9 @@ use Rattle.one_jvm.specs.declared.outcome.Stop.TheVariants as stop
 use Rattle.one_jvm.specs.declared.running.Broken.{Broken}
 use Rattle.one_jvm.specs.declared.running.Broken.TheVariants.{WriteFault, NoMemory}
 use Rattle.one_jvm.specs.declared.running.Turns.{Turns}
-use Rattle.one_jvm.specs.Answers.{TellsEnd}
-use Rattle.one_jvm.specs.Outcomes.{ending_text}
+use Rattle.one_jvm.specs.declared.outcome.Refusal.{Refusal}
+use Rattle.one_jvm.specs.declared.outcome.Refusal.TheVariants as refusal
+use Rattle.one_jvm.specs.Answers.{TellsEnd, refusal_of}
 use Rattle.one_jvm.specs.Runs.{Job, LeadsTo, IsEnd}
 
 -- the order led to the machine, all of whose output was written
@@ -63,14 +62,23 @@ stop_of (ends.StepLimit t) = stop.StepLimit t
 stop_of ends.Deadlock = stop.Deadlock
 stop_of (ends.ThreadsFull t) = stop.ThreadsFull t
 
--- the text of the end, or memory ran out for it
-abbrev pub IsEndTold : Program → List Uncaught → Stop → Stop → List ℕ → Type 0
-IsEndTold p uncaught given result text =
-    ((result ≡ given) × (text ≡ ending_text p given uncaught))
-    ⊎ ((result ≡ stop.NoMemory) × (text ≡ []))
+-- what a run that no fault cut off tells, unless memory ran out for it
+abbrev pub TellsWhole : {A E : Type 0} → Job → List Choice → Stop → Result (Vec ℕ A) E → Type 0
+TellsWhole j order stop.WriteFault text = Unit {0}
+TellsWhole j order stop.NoMemory text = Unit {0}
+TellsWhole j order s text = IfOk text (λ v. TellsEnd j order s v.items)
 
--- what a run that no fault cut off tells, and one that a fault cut off doesn't
-abbrev pub TellsWhole : Job → List Choice → Stop → List ℕ → Type 0
-TellsWhole j order stop.WriteFault text = text ≡ []
-TellsWhole j order stop.NoMemory text = text ≡ []
-TellsWhole j order s text = TellsEnd j order s text
+-- what was made, or nothing
+abbrev pub text_made : {A E : Type 0} → Result (Vec ℕ A) E → List ℕ
+text_made (Ok text) = text.items
+text_made (Err e) = []
+
+abbrev pub listing_made : {E : Type 0} → Result (List ℕ) E → List ℕ
+listing_made (Ok listing) = listing
+listing_made (Err e) = []
+
+-- the refusal of a run that ended so, and for which both texts were made, or weren't
+abbrev pub refusal_after : {A B E F : Type 0} → Stop → Result A E → Result B F → Option Refusal
+refusal_after s (Ok text) (Ok listing) = refusal_of s
+refusal_after s (Ok text) (Err e) = Some refusal.NoMemory
+refusal_after s (Err e) listing = Some refusal.NoMemory

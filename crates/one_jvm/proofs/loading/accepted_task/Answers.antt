@@ -3,4 +3,4 @@ use Rattle.one_jvm.proofs.LoadLemmas.{set}
 use Rattle.one_jvm.proofs.loading.accepted_task.Goals as goal
 
 pub returns : goal.returns
-returns c = set (asked_by c.args.request.now) c.args.classes.now c.in_ok-image.image c.task_of.result c.in_ok-image.ensures c.task_of.ensures
+returns c = set (asked_by c.args.request.now) c.args.text.items c.args.classes.now c.in_ok-image.image c.task_of.result c.in_ok-image.ensures c.task_of.ensures

@@ -4,4 +4,4 @@ use Rattle.one_jvm.proofs.loading.load.Given as goal
 
 abbrev pub invariant-loop-file : goal.invariant-loop-file
 invariant-loop-file g l =
-    GoesOn (g.S.Shelf.files l.initial.shelf) (asked_by l.request).files l.file l.classes (g.S.Shelf.files l.shelf) (g.S.Shelf.faults l.initial.shelf) (g.S.Shelf.faults l.shelf)
+    GoesOn (g.S.Shelf.files l.fn.shelf) (asked_by l.request) l.file l.text.items l.classes (g.S.Shelf.files l.shelf) (g.S.Shelf.faults l.fn.shelf) (g.S.Shelf.faults l.shelf)

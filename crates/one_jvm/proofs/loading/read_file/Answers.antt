@@ -1,18 +1,5 @@
-use Rattle.std.proofs.Common.{rules}
-use Rattle.one_jvm.proofs.LoadLemmas.{loaded, missing, too_long}
+use Rattle.one_jvm.proofs.LoadLemmas.{judged}
 use Rattle.one_jvm.proofs.loading.read_file.Goals as goal
 
-pub returns-in-Ok-clause-answer : goal.returns-in-Ok-clause-answer
-returns-in-Ok-clause-answer g c =
-    loaded c.args.name.now (g.S.Shelf.files c.args.shelf.now) c.args.file (g.S.Shelf.faults c.args.shelf.now) (g.S.Shelf.faults c.read_file.new.self) c.in-Ok.bytes.items c.class_of.result
-    (λ fs e. (c.in-Ok.ensures.answer.of_told fs e).ok) c.in-Ok.ensures.answer.bound (rw c.as_slice.ensures.value at c.class_of.ensures)
-
-pub returns-in-Err-NotThere-clause-answer : goal.returns-in-Err-NotThere-clause-answer
-returns-in-Err-NotThere-clause-answer g c =
-    missing c.args.name.now (g.S.Shelf.files c.args.shelf.now) c.args.file (g.S.Shelf.faults c.args.shelf.now) (g.S.Shelf.faults c.read_file.new.self)
-    (λ fs e. (c.in-Err-NotThere.ensures.answer.of_told fs e).not_there (search rules))
-
-pub returns-in-Err-TooLong-clause-answer : goal.returns-in-Err-TooLong-clause-answer
-returns-in-Err-TooLong-clause-answer g c =
-    too_long c.args.name.now (g.S.Shelf.files c.args.shelf.now) c.args.file (g.S.Shelf.faults c.args.shelf.now) (g.S.Shelf.faults c.read_file.new.self)
-    (λ fs e. (c.in-Err-TooLong.ensures.answer.of_told fs e).too_long (search rules))
+pub returns-clause-answer : goal.returns-clause-answer
+returns-clause-answer g c = judged c.args.name.now (g.S.Shelf.files c.args.shelf.now) c.args.file (g.S.Shelf.faults c.args.shelf.now) (g.S.Shelf.faults c.read_bytes.new.shelf) c.in_ok-bytes.bytes.items c.class_of.result c.in_ok-bytes.ensures.answer (rw c.as_slice.ensures.value at c.class_of.ensures)

@@ -12,3 +12,9 @@ returns-in-NoFile-clause-bytes g c = rw c.in-NoFile.is c.write_line.ensures.byte
 
 pub returns-in-WriteFault-clause-bytes : goal.returns-in-WriteFault-clause-bytes
 returns-in-WriteFault-clause-bytes g c = rw c.in-WriteFault.is c.write_all-in-WriteFault.ensures.bytes
+
+pub returns-in-BadOrder-clause-bytes : goal.returns-in-BadOrder-clause-bytes
+returns-in-BadOrder-clause-bytes g c = rw c.in-BadOrder.is c.write_count.ensures.bytes
+
+pub returns-in-EarlyOrder-clause-bytes : goal.returns-in-EarlyOrder-clause-bytes
+returns-in-EarlyOrder-clause-bytes g c = rw c.in-EarlyOrder.is c.write_all-in-EarlyOrder.ensures.bytes

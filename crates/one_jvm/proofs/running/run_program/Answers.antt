@@ -4,7 +4,7 @@ use Rattle.machine_state.specs.Start.{start}
 use Rattle.one_jvm.specs.Runs.{job_of}
 use Rattle.one_jvm.specs.Steps.Parts.{asked_by}
 use Rattle.one_jvm.specs.declared.outcome.Stop.TheVariants.{WriteFault, NoMemory}
-use Rattle.one_jvm.proofs.RunLoop.{begins, unbegun, turned, broken, broken_write, part, cut_ran, ended_ran, ended_tells}
+use Rattle.one_jvm.proofs.RunLoop.{begins, unbegun, turned, broken, broken_write, part, cut_ran, ended_ran, ended_tells, ended_quiet}
 use Rattle.one_jvm.proofs.running.run_program.Goals as goal
 
 pub returns-in_default-clause-ran : goal.returns-in_default-clause-ran
@@ -17,13 +17,20 @@ pub returns-in-Ok-Some-clause-ran : goal.returns-in-Ok-Some-clause-ran
 returns-in-Ok-Some-clause-ran g c =
     let t = rw c.in-Ok-Some.field-0-is at (c.in-Ok-Some.ensures.turned (asked_by c.args.request.now).args (asked_by c.args.request.now).steps c.turns.invariant.run) in
     let o = turned (job_of c.args.image.now (asked_by c.args.request.now)) c.turns.turns c.turn.new.self _ _ _ _ _ _ c.turns.invariant t.0 c.in-Ok-Some.ensures.later in
-    ended_ran (job_of c.args.image.now (asked_by c.args.request.now)) c.turn.new.self c.end_run.result.order c.in-Ok-Some.stop c.end_run.result.text.items (shown g.O.Sink.held g.O.Sink.faults c.args.out.now) (shown g.O.Sink.held g.O.Sink.faults c.turn.new.out) _ _ o t.1 c.end_run.ensures.order c.end_run.result.stop c.end_run.ensures.told
+    ended_ran (job_of c.args.image.now (asked_by c.args.request.now)) c.turn.new.self c.end_run.result.order c.in-Ok-Some.stop c.end_run.result.stop (shown g.O.Sink.held g.O.Sink.faults c.args.out.now) (shown g.O.Sink.held g.O.Sink.faults c.turn.new.out) _ _ o t.1 c.end_run.ensures.order c.end_run.ensures.stop
 
 pub returns-in-Ok-Some-clause-told : goal.returns-in-Ok-Some-clause-told
 returns-in-Ok-Some-clause-told g c =
     let t = rw c.in-Ok-Some.field-0-is at (c.in-Ok-Some.ensures.turned (asked_by c.args.request.now).args (asked_by c.args.request.now).steps c.turns.invariant.run) in
     let o = turned (job_of c.args.image.now (asked_by c.args.request.now)) c.turns.turns c.turn.new.self _ _ _ _ _ _ c.turns.invariant t.0 c.in-Ok-Some.ensures.later in
-    ended_tells (job_of c.args.image.now (asked_by c.args.request.now)) c.turn.new.self c.end_run.result.order c.in-Ok-Some.stop c.end_run.result.text.items (shown g.O.Sink.held g.O.Sink.faults c.args.out.now) (shown g.O.Sink.held g.O.Sink.faults c.turn.new.out) _ _ o t.1 c.end_run.ensures.order c.end_run.result.stop c.end_run.ensures.told
+    ended_tells (job_of c.args.image.now (asked_by c.args.request.now)) c.turn.new.self c.end_run.result.order c.in-Ok-Some.stop c.end_run.result.stop (shown g.O.Sink.held g.O.Sink.faults c.args.out.now) (shown g.O.Sink.held g.O.Sink.faults c.turn.new.out) _ _ o t.1 c.end_run.ensures.order c.end_run.ensures.stop c.end_run.result.text c.end_run.ensures.told
+
+pub returns-in-Ok-Some-clause-quiet : goal.returns-in-Ok-Some-clause-quiet
+returns-in-Ok-Some-clause-quiet g c d =
+    let t = rw c.in-Ok-Some.field-0-is at (c.in-Ok-Some.ensures.turned (asked_by c.args.request.now).args (asked_by c.args.request.now).steps c.turns.invariant.run) in
+    let o = turned (job_of c.args.image.now (asked_by c.args.request.now)) c.turns.turns c.turn.new.self _ _ _ _ _ _ c.turns.invariant t.0 c.in-Ok-Some.ensures.later in
+    let q = ended_quiet (job_of c.args.image.now (asked_by c.args.request.now)) c.turn.new.self c.end_run.result.order c.in-Ok-Some.stop c.end_run.result.stop (shown g.O.Sink.held g.O.Sink.faults c.args.out.now) (shown g.O.Sink.held g.O.Sink.faults c.turn.new.out) _ _ o t.1 c.end_run.ensures.order c.end_run.ensures.stop d in
+    c.end_run.ensures.quiet q.0 q.1
 
 pub returns-in-Err-WriteFault-clause-ran : goal.returns-in-Err-WriteFault-clause-ran
 returns-in-Err-WriteFault-clause-ran g c =
