@@ -139,11 +139,7 @@ fn read_order<S: Shelf>(
 }
 
 /// The files of a call, in order.
-fn load<S: Shelf>(
-    alloc: Global,
-    shelf: &mut S,
-    request: &Request<'_>,
-) -> Result<Loaded, Refusal>
+fn load<S: Shelf>(alloc: Global, shelf: &mut S, request: &Request<'_>) -> Result<Loaded, Refusal>
     requires counted { IsCounted (asked_by request.now) }
     ensures files { S.files shelf.new ≡ S.files shelf.old }
     ensures later { S.faults shelf.old ≤ S.faults shelf.new }

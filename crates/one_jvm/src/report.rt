@@ -104,12 +104,7 @@ fn write_refused<E: Sink>(err: &mut E, name: &[u8], why: ClassErr) -> Result<(),
 }
 
 /// Writes a line of a front, a number and what follows it.
-fn write_count<E: Sink>(
-    err: &mut E,
-    front: &[u8],
-    number: u64,
-    behind: &[u8],
-) -> Result<(), Failed>
+fn write_count<E: Sink>(err: &mut E, front: &[u8], number: u64, behind: &[u8]) -> Result<(), Failed>
     ensures bytes { GainsAll (E.held err.old) (E.held err.new)
         (front.now ++ decimal number ++ behind.now) result }
     ensures cause { HasCause (E.faults err.old) (E.faults err.new) result }

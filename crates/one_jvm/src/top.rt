@@ -105,11 +105,7 @@ fn without_run<'a>(
 }
 
 /// The text of an order, where the words ask to show it.
-fn order_listing(
-    alloc: Global,
-    request: &Request<'_>,
-    order: &Order,
-) -> Result<List<u8>, NoMemory>
+fn order_listing(alloc: Global, request: &Request<'_>, order: &Order) -> Result<List<u8>, NoMemory>
     requires { AllByRecursion HasClass order.now }
     ensures text { IfOk result (IsShownText (asked_by request.now).shows order.now None) }
     ensures unasked { (asked_by request.now).shows ≡ false → IsOk result }
