@@ -3,6 +3,7 @@
 Each program does one kind of work in a loop of so many rounds; the time of the same program with no rounds is
 taken off. `java` runs the same class files with `-Xint` ten or a hundred times as many rounds, since its start takes
 longer than these loops."""
+import functools
 import os
 import subprocess
 import sys
@@ -35,6 +36,7 @@ SOURCE = """public class Bench {{
 """
 
 
+@functools.lru_cache(maxsize=None)
 def compiled(folder, kind, rounds, objects=0, classes=0):
     """The class files of a program, in a folder of their own."""
     before, work, _ = WORK[kind]
