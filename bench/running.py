@@ -56,7 +56,7 @@ def compiled(folder, kind, rounds, objects=0, classes=0):
 
 
 def seconds(files):
-    return least_time([CJVM, "run", "--main", "Bench", *files], (0,), None)
+    return least_time([CJVM, "run", "--steps", "50000000", "--main", "Bench", *files], (0,), None)
 
 
 def per_step(folder, kind, rounds, objects=0, classes=0):
