@@ -50,7 +50,7 @@ fn run(alloc: Global, files: &[(&str, &[u8])]) -> Result<Left, Fail> {
 #[test]
 fn runs_programs(rt: HostRuntime) -> Result<(), Fail> {
     let alloc = rt.alloc();
-    let rows: [Row<'_>; 16] = [
+    let rows: [Row<'_>; 19] = [
         Row {
             files: &[("Edges.class", EDGES.as_slice())],
             out: b"-2147483648\n0\n-56\n",
@@ -137,6 +137,27 @@ fn runs_programs(rt: HostRuntime) -> Result<(), Fail> {
             out: b"",
             err: b"cjvm: deadlock\n",
             status: 9,
+        },
+        Row {
+            files: &[("Sleepers.class", SLEEPERS.as_slice())],
+            out: b"",
+            err: b"cjvm: deadlock\n",
+            status: 9,
+        },
+        Row {
+            files: &[
+                ("Needed.class", NEEDED.as_slice()),
+                ("Needed$Needs.class", NEEDED_NEEDS.as_slice()),
+            ],
+            out: b"",
+            err: b"cjvm: deadlock\n",
+            status: 9,
+        },
+        Row {
+            files: &[("Twice.class", TWICE.as_slice())],
+            out: b"1\n2\n",
+            err: b"",
+            status: 0,
         },
         Row {
             files: &[("Casts.class", CASTS.as_slice())],
