@@ -17,6 +17,7 @@ from program import CJVM, least_time, need_programs
 COUNTS = (10, 100, 1000)
 USES = 20
 METHOD_LIMIT = 65000
+ALIKE = 45000
 LONG_NAME = b"L" * 65000
 LONG_DESC = b"L" + LONG_NAME + b";"
 SHORT_NAME = b"p/Target"
@@ -94,15 +95,21 @@ def diamond(count):
 # Hostile programs.
 
 
-def signatures(count):
-    """So many names and descriptors, of few texts."""
-    side = math.isqrt(count - 1) + 1
+def short_descs(count):
+    """So many descriptors, each of few letters."""
     descs = []
-    for number in range(side):
+    for number in range(count):
         args = b""
         while number > 0:
             args, number = args + b"IJBCSZ"[number % 6 : number % 6 + 1], number // 6
         descs.append(b"(" + args + b"I)V")
+    return descs
+
+
+def signatures(count):
+    """So many names and descriptors, of few texts."""
+    side = math.isqrt(count - 1) + 1
+    descs = short_descs(side)
     return [(b"m%d" % (k // side), descs[k % side]) for k in range(count)]
 
 
@@ -174,7 +181,42 @@ def many_called(pool):
     return b"\xb1" + repeated(struct.pack(">BH", 184, pool.member(10, LONG_NAME, b"all", MANY_LONG)))
 
 
+def alike(members):
+    """A class of those abstract methods, beside the class of a long name."""
+    return [holder(b"p/C0", OBJECT, members), target(LONG_NAME), holder(ARGUMENT, OBJECT)]
+
+
+def of_one_name():
+    return alike([(LONG_NAME, desc) for desc in short_descs(ALIKE)])
+
+
+def of_one_desc():
+    return alike([(b"m%d" % k, b"(" + LONG_DESC + b")V") for k in range(ALIKE)])
+
+
+def fields_of_one_type():
+    """A class of many fields, all of the class of a long name."""
+    pool = Pool()
+    desc = pool.text(LONG_DESC)
+    fields = [struct.pack(">HHHH", PUBLIC, pool.text(b"f%d" % k), desc, 0) for k in range(ALIKE)]
+    this, over = pool.named(7, b"p/C0"), pool.named(7, OBJECT)
+    methods = [main_method(pool)]
+    return [joined(pool, PUBLIC | SUPER, this, over, [], fields, methods), target(LONG_NAME), holder(ARGUMENT, OBJECT)]
+
+
+def one_interface():
+    """A class that lists one interface of a long name again and again."""
+    pool = Pool()
+    this, over, listed = pool.named(7, b"p/C0"), pool.named(7, OBJECT), pool.named(7, LONG_NAME)
+    listing = joined(pool, PUBLIC | SUPER, this, over, [listed] * METHOD_LIMIT, [], [main_method(pool)])
+    return [listing, class_file(LONG_NAME, OBJECT, [], PUBLIC | INTERFACE | ABSTRACT, b"")]
+
+
 HOSTILE = (
+    ("45,000 methods of one long name", of_one_name),
+    ("45,000 methods of one long descriptor", of_one_desc),
+    ("45,000 fields of one long type", fields_of_one_type),
+    ("one interface of a long name, 65,000 times", one_interface),
     ("2 classes of 65,000 methods, all overridden", lambda: overridden(2, METHOD_LIMIT)),
     ("10 classes of 65,000 methods, all overridden", lambda: overridden(10, METHOD_LIMIT)),
     ("1,000 classes of 1,000 methods, all overridden", lambda: overridden(1000, 1000)),

@@ -104,6 +104,17 @@ def deep_stack(length):
     return make
 
 
+def unreached(count):
+    """Methods of calls with 255 arguments, none of which is reached."""
+    pool = Pool()
+    desc = b"(" + b"LA;" * 255 + b")V"
+    call = struct.pack(">BH", 184, pool.member(10, b"A", b"all", desc))
+    code = b"\xb1" + call * ((LIMIT - 1) // 3)
+    methods = [method(pool, b"m%d" % i, b"()V", code, 0, 0) for i in range(count)]
+    methods.append(method(pool, b"all", desc, b"\xb1", 0, 255))
+    return [class_file(pool, b"A", methods)]
+
+
 def chain_files(depth):
     """Classes one below the other, of which objects of every two meet."""
     files = []
@@ -136,6 +147,7 @@ KINDS = (
     ("a stack that grows to the end", [lambda n=n: [in_file(deep_stack(n), 1)] for n in (655, 6553, LIMIT)]),
     ("15 methods of joins, 2 locals", [lambda: [in_file(joins(LIMIT, 2), 15)]]),
     ("15 methods of joins, 255 locals", [lambda: [in_file(joins(LIMIT, 255), 15)]]),
+    ("calls of 255 arguments, never reached", [lambda n=n: unreached(n) for n in (1, 15)]),
     ("a chain of classes", [lambda n=n: chain_files(n) for n in (10, 100, 1000)]),
 )
 

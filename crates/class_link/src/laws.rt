@@ -14,7 +14,8 @@ ghost use Rattle.class_link.specs.Mains.{first_number};
 pub fn boot_is_apart()
     ensures count { length boot_files ≡ first_number }
     ensures names { same_class [] boot_files ≡ [] }
-    ensures falls { (files : List Class) → IsFalling (above_rows (boot_files ++ files)) first_number }
+    ensures falls { (files : List Class)
+        → IsFalling (above_rows (boot_files ++ files)) first_number }
 {}
 
 /// The native method of the boot classes at k, counted from 0, is intrinsic k.

@@ -32,7 +32,8 @@ pub(crate) fn ranks(
     requires count { length program.now ≡ FIRST + length files.now }
     requires few { length files.now ≤ 1024 }
     ensures ranked { IfOk result (λ ranks. IsRanked (above_rows program.now) ranks) }
-    ensures answer { IsAnswer (numbered (super_loop (above_rows program.now)) first_number files.now) result }
+    ensures answer { IsAnswer
+        (numbered (super_loop (above_rows program.now)) first_number files.now) result }
 {
     let rows = rows(alloc, program, Step::Above)?;
     check_loops(alloc, rows.as_slice(), FIRST, files)

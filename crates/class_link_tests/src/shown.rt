@@ -53,9 +53,9 @@ fn push_method_desc(alloc: Global, words: &mut String, desc: &MethodDesc) -> Res
 
 /// Owner, name, descriptor, flags, place and constant.
 fn push_field(alloc: Global, words: &mut String, field: &FieldInfo) -> Result<(), NoMemory> {
-    let name = ascii(alloc, &field.name)?;
-    let mut desc = String::new(alloc);
-    push_desc(alloc, &mut desc, field.desc.dims, &field.desc.elem)?;
+    let name = ascii(alloc, field.name.get())?;
+    let (mut desc, parsed) = (String::new(alloc), field.desc.get());
+    push_desc(alloc, &mut desc, parsed.dims, &parsed.elem)?;
     let (owner, flags, place, constant) = (field.owner, field.flags, field.place, field.constant);
     let line = format!(in alloc; "field {owner} {name} {desc} {flags:x} {place} {constant:?}\n")?;
     words.push_str(line.as_str())?;
@@ -95,9 +95,9 @@ fn push_method(
     number: u32,
     method: &MethodInfo,
 ) -> Result<(), NoMemory> {
-    let name = ascii(alloc, &method.name)?;
+    let name = ascii(alloc, method.name.get())?;
     let mut desc = String::new(alloc);
-    push_method_desc(alloc, &mut desc, &method.desc)?;
+    push_method_desc(alloc, &mut desc, method.desc.get())?;
     let (ops, entries) = match &method.body {
         Body::Code(code) => (code.ops.len(), code.table.len()),
         Body::Intrinsic(_) | Body::Abstract => (0, 0),

@@ -36,7 +36,8 @@ impl<'a> Names<'a> {
     /// Adds a name where it is new, and tells whether it was.
     pub fn add(&mut self, name: &'a [u16]) -> Result<bool, NoMemory>
         ensures new { IfOk result (λ fresh. fresh ≡ not (is_known self.old name.now)) }
-        ensures ok { IfOk result (λ fresh. self.new ≡ (if fresh then self.old ++ name.now ∷ [] else self.old)) }
+        ensures ok { IfOk result
+            (λ fresh. self.new ≡ (if fresh then self.old ++ name.now ∷ [] else self.old)) }
         ensures err { OnErr result (self.new ≡ self.old) }
     {
         let (_, fresh) = self.set.insert_full(name)?;

@@ -72,7 +72,8 @@ impl FlowFrame {
     #[tactic(auto, using(crate::proofs::Lists::meet_joined, crate::proofs::Lists::meet_long), unfolding(crate::specs::Frames::frame_joined))]
     pub fn raise(&mut self, alloc: Global, image: &Image, low: &FlowFrame)
         requires tree { IsTree (superclasses image.now) }
-        requires alike { self.old.clash ≡ false → low.now.clash ≡ false → length self.old.locals ≡ length low.now.locals }
+        requires alike { self.old.clash ≡ false → low.now.clash ≡ false → length self.old.locals
+            ≡ length low.now.locals }
         ensures { self.new ≡ frame_joined (superclasses image.now) self.old low.now }
     {
         if self.clash

@@ -91,7 +91,8 @@ pub(crate) fn stacks_meet(image: &Image, a: &[FlowType], b: &[FlowType]) -> bool
 /// Makes the type at a place the least that both fit.
 fn raise_at(image: &Image, list: &mut List<FlowType>, at: usize, low: FlowType)
     requires tree { IsTree (superclasses image.now) }
-    ensures { MatchOption (slice_get list.old at) (list.new ≡ list.old) (λ t. list.new ≡ slice_set list.old at (joined (superclasses image.now) t low)) }
+    ensures { MatchOption (slice_get list.old at) (list.new ≡ list.old)
+        (λ t. list.new ≡ slice_set list.old at (joined (superclasses image.now) t low)) }
 {
     if let Some(found) = list.get(at) {
         let t = *found;

@@ -4,15 +4,7 @@ use Rattle.std.proofs.lemmas.Bool.Decides.{eqb_tells}
 use Rattle.jvm_base.specs.Words.{from}
 use Rattle.flow_types.specs.declared.flow_type.FlowType.{FlowType}
 use Rattle.instruction_table.specs.declared.rule.TheConstants as rule
-use Rattle.std.specs.Prelude.{slice_get, map}
-use Rattle.std.specs.Option.{option_map}
-use Rattle.std.proofs.lemmas.Option.{slice_get-map}
-use Rattle.instruction_table.specs.declared.row.Row.{Row}
-use Rattle.code_table.specs.declared.code.Placed.{Placed}
-use Rattle.program_image.specs.Program.{Program}
-use Rattle.flow_verifier.specs.declared.method.Method.{Method}
-use Rattle.flow_verifier.specs.Methods.{ops_of}
-use Rattle.flow_verifier.specs.Given.{depth_rules, after_rules, row_at}
+use Rattle.flow_verifier.specs.Given.{depth_rules, after_rules}
 use Rattle.std.proofs.Common.{◌≡◌, ◌∙◌, sym, ap, inl, inr, ℕ, List, [], ◌∷◌, ◌++◌, Option, Some, None, true, false, refl}
 use Rattle.instruction_table.specs.LowestRule.{lower, lowest}
 use Rattle.instruction_table.specs.Working.{is_empty}
@@ -47,13 +39,3 @@ depth_after max rules ts broken e n = found (lowest rules) (λ f. n (e ∙ f))
     found : (o : Option ℕ) → (o ≡ Some rule.MISSING → ⊥) → lowest (depth_rules max ts) ≡ lowest (if from false (λ r. r == rule.MISSING) o then [] else depth_rules max ts)
     found None n = refl
     found (Some r) n = elim (eqb_tells r rule.MISSING) [ inl p ↦ absurd (n (ap Some (p.1))) | inr p ↦ rw (p.0) refl ]
-
--- the row of each instruction stands at its place
-pub row_there : (p : Program) (m : Method) (rows : List Row) (i : ℕ) (o : Placed) (r : Row) → rows ≡ map (row_at p m) (ops_of p m.number) → slice_get (ops_of p m.number) i ≡ Some o → slice_get rows i ≡ Some r → r ≡ row_at p m o
-row_there p m rows i o r e f g =
-    let h : Some (row_at p m o) ≡ Some r = sym (ap (option_map (row_at p m)) f) ∙ sym (slice_get-map (row_at p m) (ops_of p m.number) i) ∙ sym (ap (λ z. slice_get z i) e) ∙ g in
-    let k : row_at p m o ≡ r = cc in sym k
-
-pub no_row : (p : Program) (m : Method) (rows : List Row) (i : ℕ) (o : Placed) → rows ≡ map (row_at p m) (ops_of p m.number) → slice_get (ops_of p m.number) i ≡ Some o → slice_get rows i ≡ None → ⊥
-no_row p m rows i o e f g =
-    let h : Some (row_at p m o) ≡ None = sym (ap (option_map (row_at p m)) f) ∙ sym (slice_get-map (row_at p m) (ops_of p m.number) i) ∙ sym (ap (λ z. slice_get z i) e) ∙ g in absurd cc

@@ -1,7 +1,7 @@
 -- What holds while frames still rise.
 use Rattle.program_image.specs.Program.{Program}
 use Rattle.flow_types.specs.Tree.{superclasses}
-use Rattle.std.specs.Prelude.{Bool, true, false, ◌≡◌, ℕ, ◌<◌, ◌⊎◌, List, [], ◌∷◌, length, map, slice_get, slice_set, Option, Some, None}
+use Rattle.std.specs.Prelude.{Bool, true, false, ◌≡◌, ℕ, ◌<◌, ◌⊎◌, List, [], ◌∷◌, length, slice_get, slice_set, Option, Some, None}
 use Rattle.std.specs.Bool.{MatchBool}
 use Rattle.std.specs.List.{list_any}
 use Rattle.jvm_base.specs.Words.{from}
@@ -16,7 +16,7 @@ use Rattle.flow_verifier.specs.declared.facts.Facts.{Facts}
 use Rattle.flow_verifier.specs.declared.rising.Rising.{Rising}
 use Rattle.flow_verifier.specs.declared.visit.Visit.{Visit}
 use Rattle.flow_verifier.specs.Methods.{ops_of, room_of}
-use Rattle.flow_verifier.specs.Given.{row_at, is_bad_at, given, target, edges}
+use Rattle.flow_verifier.specs.Given.{is_bad_at, given, target, edges}
 use Rattle.flow_verifier.specs.Typing.{frame_at, FitsPlace, FitsThere, entry_frame, IsAssignment, IsClosed}
 
 -- i stands on the list
@@ -64,9 +64,8 @@ pub record IsPartly (p : Program) (m : Method) (at : ℕ) (f : FlowFrame) (j : �
 abbrev pub flag_at : List Bool → ℕ → Bool
 flag_at flags i = from false (λ b. b) (slice_get flags i)
 
--- the row of each instruction, and for each place whether a bad handler is there
+-- for each place whether a bad handler is there
 pub record IsKnown (p : Program) (m : Method) (facts : Facts) : Type 0 where
-  pub rows : facts.rows ≡ map (row_at p m) (ops_of p m.number)
   pub bad : (i : ℕ) → flag_at facts.bad i ≡ list_any (is_bad_at p i) m.handlers
 
 -- each place has a flag, and who is flagged stands on the list

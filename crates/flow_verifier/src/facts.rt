@@ -1,40 +1,24 @@
 //! What is known of each place of a method before frames flow.
 
-ghost use Rattle.std.specs.Prelude.{◌≡◌, ◌<◌, ◌||◌, ℕ, length, map, slice_get, IfOk, Some};
+ghost use Rattle.std.specs.Prelude.{◌≡◌, ◌<◌, ◌||◌, ℕ, length, IfOk};
 ghost use Rattle.std.specs.List.{list_any};
-ghost use Rattle.flow_verifier.specs.Methods.{ops_of, IsMethod};
-ghost use Rattle.flow_verifier.specs.Given.{row_at, is_bad_at};
+ghost use Rattle.flow_verifier.specs.Methods.{IsMethod};
+ghost use Rattle.flow_verifier.specs.Given.{is_bad_at};
 ghost use Rattle.flow_verifier.specs.Going.{flag_at, IsKnown};
 
 use crate::method::{Handler, Method, ops_of};
 use crate::rising::no_flags;
-use code_table::Placed;
 use flow_types::is_sub;
-use instruction_table::{Row, THROWABLE, row_of};
+use instruction_table::THROWABLE;
 use jvm_base::{List, NoMemory};
 use program_image::Image;
 use std::alloc::Global;
 
-/// The row of each instruction, and for each place whether a handler there catches a class that
-/// isn't thrown. They are found once, so that a visit searches neither handlers nor names.
+/// For each place whether a handler there catches a class that isn't thrown, found once, so that a
+/// visit doesn't search the handlers.
 #[derive(Drop)]
 pub(crate) struct Facts {
-    pub rows: List<Row>,
     pub bad: List<bool>,
-}
-
-/// The row of each instruction.
-fn rows(alloc: Global, image: &Image, m: &Method) -> Result<List<Row>, NoMemory>
-    requires within { m.now.number < length image.now.methods }
-    ensures { IfOk result (λ rows. rows
-        ≡ map (row_at image.now m.now) (ops_of image.now m.now.number)) }
-{
-    let ops = ops_of(image, m.number);
-    let mut rows = List::new(alloc);
-    for i in 0..ops.len() {
-        rows.push(row_of(alloc, image, m.number, ops[i].at, &ops[i].op)?)?;
-    }
-    Ok(rows)
 }
 
 /// Flags the place of a handler that catches a class which isn't thrown.
@@ -70,7 +54,6 @@ impl Facts {
         ensures { IfOk result (λ facts. IsKnown image.now m.now facts) }
     {
         Ok(Facts {
-            rows: rows(alloc, image, m)?,
             bad: bad_places(alloc, image, m)?,
         })
     }

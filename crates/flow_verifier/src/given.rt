@@ -16,7 +16,7 @@ use crate::facts::Facts;
 use crate::method::{Edge, Method, ops_of};
 use crate::shared_frame::SharedFrame;
 use code_table::Placed;
-use instruction_table::{Row, Stack, Work, falls, lower, rule};
+use instruction_table::{Row, Stack, Work, falls, lower, row_of, rule};
 use jvm_base::NoMemory;
 use program_image::Image;
 use std::alloc::Global;
@@ -122,30 +122,15 @@ fn work_on(
     })
 }
 
-/// The row of the instruction at a place.
-#[tactic(auto, using(crate::proofs::Rules::row_there, crate::proofs::Rules::no_row))]
-fn row_at<'f>(image: &Image, m: &Method, facts: &'f Facts, i: usize, placed: &Placed) -> &'f Row
-    requires known { IsKnown image.now m.now facts.now }
-    requires placed { slice_get (ops_of image.now m.now.number) i ≡ Some placed.now }
-    ensures { result.now ≡ row_at image.now m.now placed.now }
-{
-    match facts.rows.get(i) {
-        Some(row) => row,
-        None => unreachable!(),
-    }
-}
-
 /// Lets the instruction at a place work on a frame.
 fn work_there(
     alloc: Global,
     image: &Image,
     m: &Method,
-    facts: &Facts,
     i: usize,
     work: Work,
 ) -> Result<Worked, NoMemory>
     requires within { m.now.number < length image.now.methods }
-    requires known { IsKnown image.now m.now facts.now }
     ensures rule { IfOk result (λ w. w.rule
         ≡ lowest (rules_there image.now m.now i (slice_get (ops_of image.now m.now.number) i) work)) }
     ensures work { IfOk result (λ w. w.work
@@ -154,8 +139,8 @@ fn work_there(
     let ops = ops_of(image, m.number);
     match ops.get(i) {
         Some(placed) => {
-            let row = row_at(image, m, facts, i, placed);
-            work_on(alloc, image, m, i, ops.len(), placed, row, work)
+            let row = row_of(alloc, image, m.number, placed.at, &placed.op)?;
+            work_on(alloc, image, m, i, ops.len(), placed, &row, work)
         }
         None => Ok(Worked { work, rule: None }),
     }
@@ -178,7 +163,7 @@ fn work_at(
         ≡ next_there image.now m.now (slice_get (ops_of image.now m.now.number) i) (work_of f.now)) }
 {
     let place = place_rule(image, m, facts, i);
-    let worked = work_there(alloc, image, m, facts, i, f.work()?)?;
+    let worked = work_there(alloc, image, m, i, f.work()?)?;
     Ok(Worked {
         work: worked.work,
         rule: lower(place, worked.rule),

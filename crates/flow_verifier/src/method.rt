@@ -110,7 +110,7 @@ fn parameters(alloc: Global, image: &Image, number: u32) -> Result<List<FlowType
     push_parameters(
         &mut locals,
         image,
-        image.method(number).desc.args.as_slice(),
+        image.method(number).desc.get().args.as_slice(),
     )?;
     Ok(locals)
 }

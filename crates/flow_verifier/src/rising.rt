@@ -149,7 +149,8 @@ impl Rising {
         requires within { to < length self.old.frames }
         requires alike { IsAlike g.now (frame_at self.old.frames to) }
         ensures marked { OnOk result (IsMarked self.new) }
-        ensures flows { OnOk result (Flows (superclasses image.now) g.now to self.old.frames self.old.todo self.new.frames self.new.todo) }
+        ensures flows { OnOk result (Flows (superclasses image.now) g.now to self.old.frames self.old.todo
+            self.new.frames self.new.todo) }
         ensures cost { steps.new ≤ steps.old + 1 }
     {
         steps.tick();

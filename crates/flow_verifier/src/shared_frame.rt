@@ -1,6 +1,6 @@
 //! A frame that shares with others what they have in common.
 
-ghost use Rattle.std.specs.Prelude.{◌≡◌, ◌∷◌, [], length, false, IfOk, OnOk};
+ghost use Rattle.std.specs.Prelude.{◌≡◌, ◌∷◌, [], length, true, false, IfOk, OnOk};
 ghost use Rattle.flow_types.specs.Tree.{superclasses, IsTree};
 ghost use Rattle.flow_types.specs.Frames.{clash_frame, frame_fits, frame_joined};
 ghost use Rattle.flow_verifier.specs.Given.{work_of, frame_of_work};
@@ -38,6 +38,16 @@ impl Model for SharedFrame {
       fresh = a.fresh;
       clash = a.clash;
     } };
+}
+
+/// Whether a type is there, and a class's own.
+fn is_class(t: Option<FlowType>, class: u32) -> bool
+    ensures { result ≡ true → t ≡ Some (FlowType.Class class) }
+{
+    match t {
+        Some(FlowType::Class(found)) => found == class,
+        _ => false,
+    }
 }
 
 impl SharedFrame {
@@ -125,10 +135,15 @@ impl SharedFrame {
         })
     }
 
-    /// Puts the class in place of the oldest operand.
+    /// Puts the class in place of the oldest operand. Where that is the class already, it takes no
+    /// memory.
+    #[tactic(auto, using(shared_types::proofs::Laws::set_same))]
     pub(crate) fn put_class(&mut self, alloc: Global, class: u32) -> Result<(), NoMemory>
         ensures { OnOk result (IsPut self.old self.new class) }
     {
+        if is_class(self.stack.types().get(0), class) {
+            return Ok(());
+        }
         self.stack.set_oldest(alloc, FlowType::Class(class))
     }
 
@@ -190,7 +205,8 @@ impl SharedFrame {
         low: &SharedFrame,
     ) -> Result<(), NoMemory>
         requires tree { IsTree (superclasses image.now) }
-        requires alike { self.old.clash ≡ false → low.now.clash ≡ false → length self.old.locals ≡ length low.now.locals }
+        requires alike { self.old.clash ≡ false → low.now.clash ≡ false → length self.old.locals
+            ≡ length low.now.locals }
         ensures { OnOk result (self.new ≡ frame_joined (superclasses image.now) self.old low.now) }
     {
         let mut f = self.frame(alloc)?;
@@ -208,7 +224,8 @@ impl SharedFrame {
         low: &SharedFrame,
     ) -> Result<(), NoMemory>
         requires tree { IsTree (superclasses image.now) }
-        requires alike { self.old.clash ≡ false → low.now.clash ≡ false → length self.old.locals ≡ length low.now.locals }
+        requires alike { self.old.clash ≡ false → low.now.clash ≡ false → length self.old.locals
+            ≡ length low.now.locals }
         ensures { OnOk result (self.new ≡ frame_joined (superclasses image.now) self.old low.now) }
     {
         if self.clash || low.clash || self.stack.depth() != low.stack.depth() {

@@ -18,7 +18,8 @@ pub(crate) fn ask(depth: u32, stack: &Operands) -> Moved
     requires { IsDefined (with_reference depth Asks stack.now.values) }
     ensures moved { result ≡ moved_of (with_reference depth Asks stack.now.values) }
     ensures kept { KeepsLocals (with_reference depth Asks stack.now.values) }
-    ensures values { values_after (with_reference depth Asks stack.now.values) stack.now.values ≡ stack.now.values }
+    ensures values { values_after (with_reference depth Asks stack.now.values) stack.now.values
+        ≡ stack.now.values }
 {
     match stack.get(depth) {
         Some(Value::Ref(_)) => Moved::Elsewhere(Pure::Heap),
@@ -32,7 +33,8 @@ pub(crate) fn field(op: u8, stack: &Operands) -> Moved
     requires { IsDefined (field_move op stack.now.values) }
     ensures moved { result ≡ moved_of (field_move op stack.now.values) }
     ensures kept { KeepsLocals (field_move op stack.now.values) }
-    ensures values { values_after (field_move op stack.now.values) stack.now.values ≡ stack.now.values }
+    ensures values { values_after (field_move op stack.now.values) stack.now.values
+        ≡ stack.now.values }
 {
     ask(if op == opcode::GETFIELD { 0 } else { 1 }, stack)
 }
@@ -42,7 +44,8 @@ pub(crate) fn call(op: u8, arguments: u32, stack: &Operands) -> Moved
     requires { IsDefined (call_move op arguments stack.now.values) }
     ensures moved { result ≡ moved_of (call_move op arguments stack.now.values) }
     ensures kept { KeepsLocals (call_move op arguments stack.now.values) }
-    ensures values { values_after (call_move op arguments stack.now.values) stack.now.values ≡ stack.now.values }
+    ensures values { values_after (call_move op arguments stack.now.values) stack.now.values
+        ≡ stack.now.values }
 {
     if op == opcode::INVOKESTATIC {
         return Moved::Elsewhere(Pure::Call);
@@ -101,7 +104,8 @@ fn has_negative_size(count: u8, stack: &Operands) -> bool
 pub(crate) fn sizes(count: u8, stack: &Operands) -> Moved
     ensures moved { result ≡ moved_of (with_sizes count stack.now.values) }
     ensures kept { KeepsLocals (with_sizes count stack.now.values) }
-    ensures values { values_after (with_sizes count stack.now.values) stack.now.values ≡ stack.now.values }
+    ensures values { values_after (with_sizes count stack.now.values) stack.now.values
+        ≡ stack.now.values }
 {
     if has_negative_size(count, stack) {
         Moved::Elsewhere(Pure::Raise(Fault::NegativeSize))

@@ -146,7 +146,8 @@ pub(crate) fn switch_table(
     requires { CanMove (switches_table other low high to.now stack.old.values) stack.old }
     ensures moved { result ≡ moved_of (switches_table other low high to.now stack.old.values) }
     ensures kept { KeepsLocals (switches_table other low high to.now stack.old.values) }
-    ensures stack { stack.new ≡ stack_after (switches_table other low high to.now stack.old.values) stack.old }
+    ensures stack { stack.new
+        ≡ stack_after (switches_table other low high to.now stack.old.values) stack.old }
 {
     match stack.pop() {
         Some(Value::Int(key)) => Moved::At(table_target(other, low, high, to, key)),
@@ -181,7 +182,8 @@ pub(crate) fn switch_pairs(other: u32, pairs: &[(i32, u32)], stack: &mut Operand
     requires { CanMove (switches_pairs other pairs.now stack.old.values) stack.old }
     ensures moved { result ≡ moved_of (switches_pairs other pairs.now stack.old.values) }
     ensures kept { KeepsLocals (switches_pairs other pairs.now stack.old.values) }
-    ensures stack { stack.new ≡ stack_after (switches_pairs other pairs.now stack.old.values) stack.old }
+    ensures stack { stack.new
+        ≡ stack_after (switches_pairs other pairs.now stack.old.values) stack.old }
 {
     match stack.pop() {
         Some(Value::Int(key)) => Moved::At(pair_target(other, pairs, key)),

@@ -21,7 +21,8 @@ pub(crate) fn arith(op: u8, stack: &mut Operands) -> Moved
     requires { CanMove (two_numbers op (arithmetic op) stack.old.values) stack.old }
     ensures moved { result ≡ moved_of (two_numbers op (arithmetic op) stack.old.values) }
     ensures kept { KeepsLocals (two_numbers op (arithmetic op) stack.old.values) }
-    ensures stack { stack.new ≡ stack_after (two_numbers op (arithmetic op) stack.old.values) stack.old }
+    ensures stack { stack.new
+        ≡ stack_after (two_numbers op (arithmetic op) stack.old.values) stack.old }
 {
     let b = stack.pop();
     let a = stack.pop();
@@ -42,7 +43,8 @@ pub(crate) fn bits(op: u8, stack: &mut Operands) -> Moved
     requires { CanMove (two_numbers op (bitwise op) stack.old.values) stack.old }
     ensures moved { result ≡ moved_of (two_numbers op (bitwise op) stack.old.values) }
     ensures kept { KeepsLocals (two_numbers op (bitwise op) stack.old.values) }
-    ensures stack { stack.new ≡ stack_after (two_numbers op (bitwise op) stack.old.values) stack.old }
+    ensures stack { stack.new
+        ≡ stack_after (two_numbers op (bitwise op) stack.old.values) stack.old }
 {
     let b = stack.pop();
     let a = stack.pop();

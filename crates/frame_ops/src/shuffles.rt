@@ -32,8 +32,10 @@ fn is_wide(value: Value) -> bool
 
 /// Takes a group off.
 fn take_group(group: Group, stack: &mut Operands) -> Few
-    ensures taken { few_values result ≡ take (group_count is_wide group stack.old.values) stack.old.values }
-    ensures left { stack.new ≡ record { values = under group stack.old.values; room = stack.old.room } }
+    ensures taken { few_values result
+        ≡ take (group_count is_wide group stack.old.values) stack.old.values }
+    ensures left { stack.new
+        ≡ record { values = under group stack.old.values; room = stack.old.room } }
 {
     let first = match group {
         Group::Nothing => None,
@@ -72,7 +74,8 @@ fn pop_group(op: u8) -> Group
 /// Takes a group off.
 pub(crate) fn pop(op: u8, stack: &mut Operands) -> Moved
     ensures moved { result ≡ Behind }
-    ensures stack { stack.new ≡ stack_after (Goes (shuffled (pop_row op) stack.old.values)) stack.old }
+    ensures stack { stack.new
+        ≡ stack_after (Goes (shuffled (pop_row op) stack.old.values)) stack.old }
 {
     let group = pop_group(op);
     let _ = take_group(group, stack);
@@ -95,7 +98,8 @@ fn dup_groups(op: u8) -> (Group, Group)
 /// Puts a copy of the top group below the one under it.
 fn double(top: Group, below: Group, stack: &mut Operands)
     requires { length (shuffled (row.Doubles top below) stack.old.values) ≤ stack.old.room }
-    ensures { stack.new ≡ stack_after (Goes (shuffled (row.Doubles top below) stack.old.values)) stack.old }
+    ensures { stack.new
+        ≡ stack_after (Goes (shuffled (row.Doubles top below) stack.old.values)) stack.old }
 {
     let first = take_group(top, stack);
     let second = take_group(below, stack);
@@ -108,7 +112,8 @@ fn double(top: Group, below: Group, stack: &mut Operands)
 pub(crate) fn dup(op: u8, stack: &mut Operands) -> Moved
     requires { CanMove (Goes (shuffled (dup_row op) stack.old.values)) stack.old }
     ensures moved { result ≡ Behind }
-    ensures stack { stack.new ≡ stack_after (Goes (shuffled (dup_row op) stack.old.values)) stack.old }
+    ensures stack { stack.new
+        ≡ stack_after (Goes (shuffled (dup_row op) stack.old.values)) stack.old }
 {
     let (top, below) = dup_groups(op);
     double(top, below, stack);

@@ -2,6 +2,7 @@ pub mod LowestLaws
 pub mod Beginning
 pub mod Stacks
 pub mod Takes
+pub mod Naming
 pub mod Listing
 pub mod FitLists
 pub mod NeedLaws

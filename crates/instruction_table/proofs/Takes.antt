@@ -1,11 +1,8 @@
 -- One more operand taken.
-use Rattle.std.proofs.Common.{◌≡◌, ◌∙◌, sym, ap, refl, ℕ, zero, suc, ◌+◌, ◌<◌, ◌≤◌, true, false, List, [], ◌∷◌, drop, length, Option, Some, arith, add-one}
-use Rattle.std.specs.Prelude.{slice_get, nat_eq, get_or}
-use Rattle.std.specs.Cmp.Lexicographic.{pointwise}
+use Rattle.std.proofs.Common.{◌≡◌, ◌∙◌, sym, ap, refl, ℕ, zero, suc, ◌+◌, ◌<◌, ◌≤◌, List, [], ◌∷◌, drop, length, Option, Some, arith, add-one}
+use Rattle.std.specs.Prelude.{get_or}
 use Rattle.std.proofs.lemmas.List.{drop_more}
-use Rattle.program_image.specs.declared.info.ClassInfo.{ClassInfo}
 use Rattle.flow_types.specs.declared.flow_type.FlowType.{FlowType}
-use Rattle.instruction_table.specs.ClassTypes.{named_from}
 use Rattle.instruction_table.specs.LowestRule.{lower, lowest}
 use Rattle.instruction_table.specs.Needs.{need_rules, needs_rules}
 use Rattle.instruction_table.specs.declared.row.Need.{Need}
@@ -38,16 +35,3 @@ drop_past zero (suc n) (x ∷ xs) e le = absurd cc
 drop_past (suc i) zero xs e le = absurd (omega arith)
 drop_past (suc i) (suc n) [] e le = refl
 drop_past (suc i) (suc n) (x ∷ xs) e le = drop_past i n xs e (omega arith)
-
--- the class at a place has the name, or not
-drop_at : {A : Type 0} (i : ℕ) (xs : List A) (x : A) → slice_get xs i ≡ Some x → drop i xs ≡ x ∷ drop (suc i) xs
-drop_at zero [] x e = absurd cc
-drop_at zero (y ∷ ys) x e = cc
-drop_at (suc i) [] x e = absurd cc
-drop_at (suc i) (y ∷ ys) x e = drop_at i ys x e
-
-pub named_hit : (i : ℕ) (name : List ℕ) (ks : List ClassInfo) (k : ClassInfo) → slice_get ks i ≡ Some k → pointwise nat_eq k.name name ≡ true → named_from i name (drop i ks) ≡ i
-named_hit i name ks k e h = ap (named_from i name) (drop_at i ks k e) ∙ rw h refl
-
-pub named_miss : (i : ℕ) (name : List ℕ) (ks : List ClassInfo) (k : ClassInfo) → slice_get ks i ≡ Some k → pointwise nat_eq k.name name ≡ false → named_from i name (drop i ks) ≡ named_from (i + 1) name (drop (i + 1) ks)
-named_miss i name ks k e h = ap (named_from i name) (drop_at i ks k e) ∙ rw (h, add-one i) refl

@@ -30,15 +30,14 @@ pub fn plain(image: &Image, class: u32) -> u32
 }
 
 /// The first class of a name.
+#[tactic(auto, using(crate::proofs::Naming::named_some, crate::proofs::Naming::named_none))]
 fn class_named(image: &Image, name: &Units) -> u32
     ensures { result ≡ class_named image.now name.now }
 {
-    for class in 0..image.classes() {
-        if image.class(class).name == *name {
-            return class;
-        }
+    match image.named(name) {
+        Some(class) => class,
+        None => 0,
     }
-    0
 }
 
 fn element_type(image: &Image, elem: &Elem) -> Element
@@ -197,7 +196,7 @@ pub fn result_of(image: &Image, method: u32) -> Option<FlowType>
     if method >= image.methods() {
         return None;
     }
-    match &image.method(method).desc.ret {
+    match &image.method(method).desc.get().ret {
         Some(desc) => Some(desc_type(image, desc)),
         None => None,
     }
@@ -207,7 +206,7 @@ pub fn result_of(image: &Image, method: u32) -> Option<FlowType>
 pub fn is_initialiser(image: &Image, method: u32) -> bool
     ensures { result ≡ is_initialiser image.now method }
 {
-    method < image.methods() && image.method(method).name.as_slice() == INIT.as_slice()
+    method < image.methods() && image.method(method).name.get().as_slice() == INIT.as_slice()
 }
 
 /// Whether a call of a method has no receiver. `<clinit>` counts as static, whatever its flags.
@@ -218,7 +217,7 @@ pub fn is_static(image: &Image, method: u32) -> bool
         return false;
     }
     let info = image.method(method);
-    has_flag(info.flags, STATIC) || info.name.as_slice() == CLINIT.as_slice()
+    has_flag(info.flags, STATIC) || info.name.get().as_slice() == CLINIT.as_slice()
 }
 
 /// Whether a method is private.

@@ -92,7 +92,8 @@ impl Stack {
 
     #[tactic(auto, using(shared_types::proofs::Laws::longs_parts, crate::proofs::Stacks::long_one, crate::proofs::Stacks::short_one))]
     pub fn pop(&mut self) -> Option<FlowType>
-        ensures { MatchOption result ((self.old ≡ []) × (self.new ≡ [])) (λ t. self.old ≡ t ∷ self.new) }
+        ensures { MatchOption result ((self.old ≡ []) × (self.new ≡ []))
+            (λ t. self.old ≡ t ∷ self.new) }
     {
         let t = self.items.pop()?;
         if is_long(&t) {

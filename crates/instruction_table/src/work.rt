@@ -166,8 +166,12 @@ fn init_rule(image: &Image, method: u32, class: u32, t: &FlowType) -> Option<u8>
 impl Work {
     /// Reads a local, and tells the rule that this breaks.
     fn read(&mut self, alloc: Global, slot: Slot, local: u16) -> Result<Option<u8>, NoMemory>
-        ensures rules { IfOk result (λ r. r ≡ lowest (read_rules slot (slice_get self.old.locals local) (slice_get self.old.locals (local + 1)))) }
-        ensures next { OnOk result (self.new ≡ with_stack self.old (read_type slot (slice_get self.old.locals local) ∷ self.old.stack)) }
+        ensures rules { IfOk result (λ r. r
+            ≡ lowest (read_rules slot (slice_get self.old.locals local)
+            (slice_get self.old.locals (local + 1)))) }
+        ensures next { OnOk result
+            (self.new ≡ with_stack self.old
+            (read_type slot (slice_get self.old.locals local) ∷ self.old.stack)) }
     {
         let found = self.locals.get(local as usize);
         let broken = read_rule(slot, found, self.locals.get(local as usize + 1));
@@ -178,7 +182,9 @@ impl Work {
 
     /// Writes an operand into a local, and tells the rule that this breaks.
     fn write(&mut self, alloc: Global, slot: Slot, local: u16) -> Result<Option<u8>, NoMemory>
-        ensures rules { IfOk result (λ r. r ≡ lowest (taken_rules slot self.old.stack ++ room_rules (local + slot_count slot) self.old.locals)) }
+        ensures rules { IfOk result (λ r. r
+            ≡ lowest (taken_rules slot self.old.stack
+            ++ room_rules (local + slot_count slot) self.old.locals)) }
         ensures next { OnOk result (self.new ≡ written_work slot local self.old) }
     {
         let room = room_rule(slot, local, &self.locals);
@@ -203,8 +209,11 @@ impl Work {
         needs: &[Need],
         gives: Gives,
     ) -> Result<Option<u8>, NoMemory>
-        ensures rules { IfOk result (λ r. r ≡ lowest (needs_rules (superclasses image.now) owner needs.now self.old.stack)) }
-        ensures next { OnOk result (self.new ≡ with_stack self.old (given gives self.old.stack ++ drop (length needs.now) self.old.stack)) }
+        ensures rules { IfOk result (λ r. r
+            ≡ lowest (needs_rules (superclasses image.now) owner needs.now self.old.stack)) }
+        ensures next { OnOk result
+            (self.new ≡ with_stack self.old
+            (given gives self.old.stack ++ drop (length needs.now) self.old.stack)) }
     {
         let second = self.stack.second();
         let broken = self.stack.take(image, owner, needs);
@@ -219,7 +228,8 @@ impl Work {
     /// Puts a copy of a group below the one under it.
     fn double(&mut self, alloc: Global, top: Group, below: Group) -> Result<Option<u8>, NoMemory>
         ensures rules { IfOk result (λ r. r ≡ lowest (both_rules top below self.old.stack)) }
-        ensures next { OnOk result (self.new ≡ with_stack self.old (doubled_types top below self.old.stack)) }
+        ensures next { OnOk result
+            (self.new ≡ with_stack self.old (doubled_types top below self.old.stack)) }
     {
         let first = self.stack.take_group(top);
         let second = self.stack.take_group(below);
@@ -291,8 +301,10 @@ impl Work {
         gives: Gives,
     ) -> Result<Option<u8>, NoMemory>
         requires { method < length image.now.methods }
-        ensures rules { IfOk result (λ r. r ≡ lowest (row_rules (site_of image.now method) (inits needs.now class gives) self.old)) }
-        ensures next { OnOk result (self.new ≡ next (site_of image.now method) (inits needs.now class gives) self.old) }
+        ensures rules { IfOk result (λ r. r
+            ≡ lowest (row_rules (site_of image.now method) (inits needs.now class gives) self.old)) }
+        ensures next { OnOk result
+            (self.new ≡ next (site_of image.now method) (inits needs.now class gives) self.old) }
     {
         let second = self.stack.second();
         let operands = self.stack.take(image, owner_of(image, method), needs);
@@ -312,7 +324,8 @@ impl Work {
     /// Returns.
     #[tactic(auto, using(crate::proofs::LowestLaws::lowest_append))]
     fn end(&mut self, image: &Image, owner: u32, needs: &[Need], fits: bool) -> Option<u8>
-        ensures rules { result ≡ lowest (needs_rules (superclasses image.now) owner needs.now self.old.stack ++ end_rules fits self.old.fresh) }
+        ensures rules { result ≡ lowest (needs_rules (superclasses image.now) owner needs.now self.old.stack
+            ++ end_rules fits self.old.fresh) }
         ensures next { self.new ≡ with_stack self.old (drop (length needs.now) self.old.stack) }
     {
         let operands = self.stack.take(image, owner, needs);

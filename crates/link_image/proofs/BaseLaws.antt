@@ -140,7 +140,7 @@ pub sum_whole : (all : List ClassFile) (ranks : List ℕ) (c : ℕ) (items : Lis
 sum_whole all ranks c items i s r e h q =
     q ∙ ap (λ n. sum_by (through all) (take n items)) h ∙ ap (sum_by (through all)) (take-length items) ∙ ap (sum_by (through all)) e ∙ sym (base_sum all ranks r c)
 
-get_set : {A : Type 0} (xs : List A) (c : ℕ) (x : A) (d : ℕ) (y : A) → slice_get (set xs c x) d ≡ Some y → ((d ≡ c) × (y ≡ x)) ⊎ (slice_get xs d ≡ Some y)
+pub get_set : {A : Type 0} (xs : List A) (c : ℕ) (x : A) (d : ℕ) (y : A) → slice_get (set xs c x) d ≡ Some y → ((d ≡ c) × (y ≡ x)) ⊎ (slice_get xs d ≡ Some y)
 get_set [] c x d y e = inr e
 get_set (z ∷ zs) zero x zero y e = inl (refl, cc)
 get_set (z ∷ zs) zero x (suc d) y e = inr e

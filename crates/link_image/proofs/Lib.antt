@@ -11,3 +11,5 @@ pub mod MainLaw
 pub mod IsImageLaw
 pub mod SizeLaws
 pub mod ItemLaws
+pub mod BackLaws
+pub mod SignLaws

@@ -83,7 +83,8 @@ fn add_bases(
     requires few_fields { All HasFewFields program.now }
     requires lens { length known.old ≡ length program.now }
     requires known { AreKnown program.now known.old }
-    ensures { OnOk result (all.new ≡ all.old ++ map_from (λ c f. base_of program.now c) 0 program.now) }
+    ensures { OnOk result
+        (all.new ≡ all.old ++ map_from (λ c f. base_of program.now c) 0 program.now) }
 {
     for c in 0..supers.len() {
         all.push(base(program, supers, ranks, known, c as u32))?;
@@ -102,7 +103,8 @@ pub(crate) fn bases(
     requires ranked { IsRanked (super_rows program.now) ranks.now }
     requires few_classes { length program.now < 2 ^ 15 }
     requires few_fields { All HasFewFields program.now }
-    ensures bases { IfOk result (λ bases. bases ≡ map_from (λ c f. base_of program.now c) 0 program.now) }
+    ensures bases { IfOk result
+        (λ bases. bases ≡ map_from (λ c f. base_of program.now c) 0 program.now) }
     ensures few { IfOk result (λ bases. All (λ base. base ≤ 2 ^ 31) bases) }
 {
     let mut known = vec![in alloc; None; supers.len()]?;

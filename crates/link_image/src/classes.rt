@@ -85,7 +85,9 @@ fn class_info(
     requires places { base + length file.now.fields < 2 ^ 32 }
     requires first { first ≡ first_method program.now number }
     requires methods { first + length file.now.methods < 2 ^ 32 }
-    ensures { IfOk result (λ info. info ≡ class_info program.now constants.now.classes constants.now.literals.now number file.now) }
+    ensures { IfOk result
+        (λ info. info ≡ class_info program.now constants.now.classes constants.now.literals.now
+        number file.now) }
 {
     Ok(ClassInfo {
         name: Units::from_slice(alloc, this_name(file))?,
@@ -114,7 +116,9 @@ pub(crate) fn declared_infos(
     requires interfaces { interfaces.now ≡ interface_rows program.now }
     requires bases { bases.now ≡ map_from (λ c f. base_of program.now c) 0 program.now }
     requires places { All (λ base. base ≤ 2 ^ 31) bases.now }
-    ensures { IfOk result (λ infos. infos ≡ declared_infos program.now constants.now.classes constants.now.literals.now) }
+    ensures { IfOk result
+        (λ infos. infos ≡ declared_infos program.now constants.now.classes
+        constants.now.literals.now) }
 {
     let mut infos = List::new(alloc);
     let mut first = 0;

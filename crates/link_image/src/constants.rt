@@ -60,7 +60,8 @@ fn literal(
 ) -> Option<Value>
     requires room { constants.now.classes + length constants.now.literals.now < 2 ^ 32 }
     requires told { AreOf (literal_number constants.now.literals.now) pool.now told.now }
-    ensures { result ≡ literal_value constants.now.classes constants.now.literals.now (text_in pool.now index) }
+    ensures { result ≡ literal_value constants.now.classes constants.now.literals.now
+        (text_in pool.now index) }
 {
     let number = number_at(constants.literals, told, pool, index)?;
     Some(Value::Ref(literal_name(constants.classes, number as u32)))
@@ -75,7 +76,8 @@ pub(crate) fn constant(
 ) -> Option<Value>
     requires room { constants.now.classes + length constants.now.literals.now < 2 ^ 32 }
     requires told { AreOf (literal_number constants.now.literals.now) pool.now told.now }
-    ensures { result ≡ constant_value constants.now.classes constants.now.literals.now pool.now index }
+    ensures { result ≡ constant_value constants.now.classes constants.now.literals.now pool.now
+        index }
 {
     match pool.get(index as usize) {
         Some(PoolItem::Integer(value)) => Some(Value::Int(*value)),

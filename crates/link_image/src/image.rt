@@ -18,6 +18,7 @@ use crate::constants::Constants;
 use crate::lookup::Lookup;
 use crate::methods::method_infos;
 use crate::reversed::joined;
+use crate::signs::method_signs;
 use crate::targets::all_targets;
 use code_table::Code;
 use jvm_base::{List, NoMemory};
@@ -42,7 +43,8 @@ fn class_infos(
     requires classes { constants.now.classes ≡ length program.now + length arrays.now }
     requires few { constants.now.classes ≤ 16777216 }
     requires room { constants.now.classes + length constants.now.literals.now < 2 ^ 32 }
-    ensures { IfOk result (λ infos. infos ≡ class_infos program.now arrays.now constants.now.literals.now) }
+    ensures { IfOk result
+        (λ infos. infos ≡ class_infos program.now arrays.now constants.now.literals.now) }
 {
     let supers = rows(alloc, program, Step::Super)?;
     let interfaces = rows(alloc, program, Step::Interfaces)?;
@@ -105,6 +107,7 @@ pub fn build(
     let targets = all_targets(alloc, &lookup, codes.as_slice())?;
     let number = method_number(&lookup, &main);
     let methods = method_infos(alloc, program, codes)?;
+    let signs = method_signs(alloc, program, methods.as_slice())?;
     let contents = literals.contents(alloc)?;
-    Image::new(alloc, classes, methods, targets, contents, number)
+    Image::with_signs(alloc, classes, methods, signs, targets, contents, number)
 }

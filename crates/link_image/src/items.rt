@@ -34,7 +34,8 @@ fn class_numbers(
     pool: &[PoolItem],
 ) -> Result<List<Option<u32>>, NoMemory>
     requires { IsFit lookup.now }
-    ensures { IfOk result (λ told. AreOf (class_number lookup.now.resolver.now lookup.now.arrays.now) pool.now told) }
+    ensures { IfOk result
+        (λ told. AreOf (class_number lookup.now.resolver.now lookup.now.arrays.now) pool.now told) }
 {
     let mut told = List::new(alloc);
     let count = pool.len().min(u16::MAX as usize) as u16;
@@ -102,8 +103,11 @@ fn text_class(
     index: u16,
 ) -> Result<Option<u32>, NoMemory>
     requires fit { IsFit lookup.now }
-    requires told { AreOf (class_number lookup.now.resolver.now lookup.now.arrays.now) pool.now told.now }
-    ensures { IfOk result (λ number. number ≡ class_number lookup.now.resolver.now lookup.now.arrays.now (text_in pool.now index)) }
+    requires told { AreOf (class_number lookup.now.resolver.now lookup.now.arrays.now) pool.now
+        told.now }
+    ensures { IfOk result
+        (λ number. number ≡ class_number lookup.now.resolver.now lookup.now.arrays.now
+        (text_in pool.now index)) }
 {
     match told.get(index as usize) {
         Some(number) => Ok(*number),
@@ -120,8 +124,11 @@ fn class_at_item(
     item: u16,
 ) -> Result<Option<u32>, NoMemory>
     requires fit { IsFit lookup.now }
-    requires told { AreOf (class_number lookup.now.resolver.now lookup.now.arrays.now) pool.now told.now }
-    ensures { IfOk result (λ number. number ≡ class_number lookup.now.resolver.now lookup.now.arrays.now (class_text pool.now item)) }
+    requires told { AreOf (class_number lookup.now.resolver.now lookup.now.arrays.now) pool.now
+        told.now }
+    ensures { IfOk result
+        (λ number. number ≡ class_number lookup.now.resolver.now lookup.now.arrays.now
+        (class_text pool.now item)) }
 {
     match class_at(pool, item) {
         Some(name) => text_class(alloc, lookup, told, pool, name),

@@ -52,7 +52,8 @@ pub(crate) fn number(
     text: &[u16],
 ) -> Result<Option<u32>, NoMemory>
     requires { IsFit lookup.now }
-    ensures { IfOk result (λ number. number ≡ class_number lookup.now.resolver.now lookup.now.arrays.now text.now) }
+    ensures { IfOk result
+        (λ number. number ≡ class_number lookup.now.resolver.now lookup.now.arrays.now text.now) }
 {
     class_number(alloc, lookup.resolver.program(), lookup.arrays, text)
 }

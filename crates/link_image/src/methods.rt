@@ -5,17 +5,18 @@ ghost use Rattle.std.specs.List.{sum_by};
 ghost use Rattle.class_format.specs.Flags.{is_native};
 ghost use Rattle.class_names.specs.Classes.{code_of, codes_of};
 ghost use Rattle.class_names.specs.Texts.{text_in};
-ghost use Rattle.jvm_base.specs.Descriptors.{method_of};
-ghost use Rattle.jvm_base.specs.Words.{from};
-ghost use Rattle.link_image.specs.Methods.{no_method_desc, natives, natives_before, body_of, method_info, class_methods, method_infos};
+ghost use Rattle.link_image.specs.Kept.Texts.{method_desc_in, AreMethodTexts};
+ghost use Rattle.link_image.specs.Methods.{natives, natives_before, body_of, method_info, class_methods, method_infos};
 
+use crate::backs::{backs, method_descs, method_names};
 use crate::reversed::reversed;
+use crate::texts::{shared_method_descs, shared_names};
 use class_format::{ClassFile, MethodItem, NATIVE, has_flag};
-use class_names::text;
 use code_table::Code;
-use jvm_base::{List, MethodDesc, NoMemory, PoolItem, Units};
+use jvm_base::{List, MethodDesc, NoMemory, Units};
 use link_rules::Program;
 use program_image::{Body, MethodInfo};
+use shared_value::Shared;
 use std::alloc::Global;
 
 /// What a method does that has this code, before which there are `natives` native ones.
@@ -30,38 +31,51 @@ fn body(natives: u32, method: &MethodItem, code: Option<Code>) -> Body
     }
 }
 
-/// The type of a method by its descriptor's index.
-fn desc(alloc: Global, pool: &[PoolItem], index: u16) -> Result<MethodDesc, NoMemory>
-    ensures { IfOk result (λ desc. desc ≡ from no_method_desc (λ d. d) (method_of (text_in pool.now index))) }
-{
-    match class_names::method_desc(alloc, pool, index)? {
-        Some(desc) => Ok(desc),
-        None => Ok(MethodDesc {
-            args: List::new(alloc),
-            ret: None,
-        }),
-    }
-}
-
+/// The method of a name and a descriptor.
 fn method_info(
-    alloc: Global,
     file: &ClassFile,
     owner: u32,
     natives: u32,
     method: &MethodItem,
     code: Option<Code>,
+    name: &Shared<Units>,
+    desc: &Shared<MethodDesc>,
 ) -> Result<MethodInfo, NoMemory>
     requires code { code ≡ code_of file.now.pool method.now }
     requires few { natives < 256 }
+    requires name { name.now ≡ text_in file.now.pool method.now.name }
+    requires desc { desc.now ≡ method_desc_in file.now.pool method.now.desc }
     ensures { IfOk result (λ info. info ≡ method_info file.now owner natives method.now) }
 {
-    let pool = file.pool.as_slice();
     Ok(MethodInfo {
         owner,
-        name: Units::from_slice(alloc, text(pool, method.name))?,
-        desc: desc(alloc, pool, method.desc)?,
+        name: name.share()?,
+        desc: desc.share()?,
         flags: method.flags,
         body: body(natives, method, code),
+    })
+}
+
+/// The names and the descriptors of a class's methods, by place.
+#[derive(Drop)]
+struct MethodTexts {
+    names: List<Shared<Units>>,
+    descs: List<Shared<MethodDesc>>,
+}
+
+/// Those of a class.
+fn method_texts(alloc: Global, file: &ClassFile) -> Result<MethodTexts, NoMemory>
+    ensures { IfOk result (λ texts. AreMethodTexts file.now texts) }
+{
+    let pool = file.pool.as_slice();
+    let in_names = method_names(alloc, file.methods.as_slice())?;
+    let in_descs = method_descs(alloc, file.methods.as_slice())?;
+    let (in_names, in_descs) = (in_names.as_slice(), in_descs.as_slice());
+    let back_names = backs(alloc, pool.len(), in_names)?;
+    let back_descs = backs(alloc, pool.len(), in_descs)?;
+    Ok(MethodTexts {
+        names: shared_names(alloc, pool, in_names, back_names.as_slice())?,
+        descs: shared_method_descs(alloc, pool, in_descs, back_descs.as_slice())?,
     })
 }
 
@@ -93,13 +107,17 @@ fn add_methods(
     ensures after { IfOk result (λ after. after ≡ before + natives file.now.methods) }
 {
     let mut natives = before;
+    let texts = method_texts(alloc, file)?;
+    let (names, descs) = (texts.names.as_slice(), texts.descs.as_slice());
     let mut codes = reversed(alloc, codes)?;
-    for method in file.methods.as_slice() {
+    let methods = file.methods.as_slice();
+    for i in 0..methods.len() {
+        let (method, name, desc) = (&methods[i], &names[i], &descs[i]);
         let code = match codes.pop() {
             Some(code) => code,
             None => None,
         };
-        infos.push(method_info(alloc, file, owner, natives, method, code)?)?;
+        infos.push(method_info(file, owner, natives, method, code, name, desc)?)?;
         natives = count(natives, method);
     }
     Ok(natives)

@@ -74,7 +74,9 @@ fn add_ops(
 ) -> Result<(), NoMemory>
     requires fit { IsFit lookup.now }
     requires told { AreTold (seen_lookup lookup.now) file.now told.now }
-    ensures { OnOk result (targets.new ≡ targets.old ++ flat_map (placed_target (seen_lookup lookup.now) file.now method) ops.now) }
+    ensures { OnOk result
+        (targets.new ≡ targets.old
+        ++ flat_map (placed_target (seen_lookup lookup.now) file.now method) ops.now) }
 {
     for placed in ops {
         let target = op_target(alloc, lookup, file, told, &placed.op)?;
@@ -116,7 +118,9 @@ fn add_table(
     requires fit { IsFit lookup.now }
     requires told { AreTold (seen_lookup lookup.now) file.now told.now }
     requires short { length table.now < 2 ^ 16 }
-    ensures { OnOk result (targets.new ≡ targets.old ++ numbered (entry_target (seen_lookup lookup.now) file.now method) 0 table.now) }
+    ensures { OnOk result
+        (targets.new ≡ targets.old
+        ++ numbered (entry_target (seen_lookup lookup.now) file.now method) 0 table.now) }
 {
     let mut at = ENTRIES;
     for entry in table {
@@ -143,7 +147,9 @@ fn add_method(
     requires told { AreTold (seen_lookup lookup.now) file.now told.now }
     requires code { code.now ≡ code_of file.now.pool method.now }
     requires short { IsShort method.now.code }
-    ensures { OnOk result (targets.new ≡ targets.old ++ method_targets (seen_lookup lookup.now) file.now number method.now) }
+    ensures { OnOk result
+        (targets.new ≡ targets.old
+        ++ method_targets (seen_lookup lookup.now) file.now number method.now) }
 {
     add_ops(alloc, targets, lookup, file, told, number, ops(code))?;
     add_table(alloc, targets, lookup, file, told, number, table(method))
@@ -163,7 +169,8 @@ fn add_class(
     requires codes { codes.now ≡ codes_of file.now }
     requires short { HasShortCode file.now }
     requires few { first + length file.now.methods < 2 ^ 32 }
-    ensures { OnOk result (targets.new ≡ targets.old ++ class_targets (seen_lookup lookup.now) first file.now) }
+    ensures { OnOk result
+        (targets.new ≡ targets.old ++ class_targets (seen_lookup lookup.now) first file.now) }
 {
     let told = Told::new(alloc, lookup, file)?;
     let methods = file.methods.as_slice();

@@ -19,7 +19,8 @@ use Rattle.link_rules.specs.Members.{method_name, method_desc, is_unlike, is_inh
 use Rattle.link_rules.specs.Numbers.{numbered, supers_of}
 use Rattle.link_rules.specs.Packages.{is_one_package}
 use Rattle.link_members.specs.declared.declarations.Declared.{Declared}
-use Rattle.link_members.specs.Declarations.{Pair, Table, signature_of, is_signature, declared_at, declared_one, declared_in, AreDeclared, name_at, near_at, near_to, AreNear, is_inherited_if, replaces_badly, bad_by}
+use Rattle.link_members.specs.Signs.{Pair}
+use Rattle.link_members.specs.Declarations.{Table, signature_of, is_signature, declared_at, declared_one, declared_in, AreDeclared, name_at, near_at, near_to, AreNear, is_inherited_if, replaces_badly, bad_by}
 
 -- ---- tests over items with their numbers
 
@@ -181,9 +182,9 @@ one_class all near c f m k g at e = by (has (supers_of all c) k) e
         ∙ sym (ap (from false (λ x. list_any (overrides_badly f m x) x.methods)) at)
 
 -- a method is in the way of m by the tables exactly where one of a superclass is
-pub declared_badly : (all : List ClassFile) (entries : Table) (near : List (Option Bool)) (c : ℕ) (f : ClassFile) (m : MethodItem) → AreDeclared all entries → AreNear all f c near → list_any (replaces_badly near m.flags) (declared_at entries (signature_of f m)) ≡ list_any (overrides_badly_at all f m) (supers_of all c)
+pub declared_badly : (all : List ClassFile) (names : List (List ℕ)) (entries : Table) (near : List (Option Bool)) (c : ℕ) (f : ClassFile) (m : MethodItem) → AreDeclared all names entries → AreNear all f c near → list_any (replaces_badly near m.flags) (declared_at names entries (signature_of f m)) ≡ list_any (overrides_badly_at all f m) (supers_of all c)
 unfolding overrides_badly_at
-declared_badly all entries near c f m declared nears =
+declared_badly all names entries near c f m declared nears =
     let t : Declared → Bool = replaces_badly near m.flags in
     let s : Pair = signature_of f m in
     ap (list_any t) (declared s)
@@ -199,12 +200,12 @@ declared_badly all entries near c f m declared nears =
     inside (y ∷ ys) (suc i) x e = let l = inside ys i x e in omega arith
 
 -- so the refusals by the tables are those of overriding
-pub refused_alike : (all : List ClassFile) (entries : Table) (near : List (Option Bool)) (c : ℕ) (f : ClassFile) → AreDeclared all entries → AreNear all f c near → flat_map (bad_by entries near f) f.methods ≡ bad_overrides all c f
+pub refused_alike : (all : List ClassFile) (names : List (List ℕ)) (entries : Table) (near : List (Option Bool)) (c : ℕ) (f : ClassFile) → AreDeclared all names entries → AreNear all f c near → flat_map (bad_by names entries near f) f.methods ≡ bad_overrides all c f
 unfolding bad_overrides bad_override
-refused_alike all entries near c f declared nears = each f.methods
+refused_alike all names entries near c f declared nears = each f.methods
   where
-    each : (ms : List MethodItem) → flat_map (bad_by entries near f) ms ≡ flat_map (bad_override all c f) ms
+    each : (ms : List MethodItem) → flat_map (bad_by names entries near f) ms ≡ flat_map (bad_override all c f) ms
     each [] = refl
     each (m ∷ ms) =
-        ap (λ b. refused_if (not (is_initialiser (method_name f m)) && b) BadOverride f (method_name f m ++ method_desc f m) ++ flat_map (bad_by entries near f) ms) (declared_badly all entries near c f m declared nears)
+        ap (λ b. refused_if (not (is_initialiser (method_name f m)) && b) BadOverride f (method_name f m ++ method_desc f m) ++ flat_map (bad_by names entries near f) ms) (declared_badly all names entries near c f m declared nears)
         ∙ ap (λ z. bad_override all c f m ++ z) (each ms)

@@ -4,3 +4,6 @@ pub mod SuperLaws
 mod DeclaredLaws
 mod NearLaws
 mod DeclaredWalks
+pub mod ToldLaws
+mod SignLaws
+mod PackageLaws

@@ -1,6 +1,5 @@
 -- Where classes have ranks none lies above itself, and where none is refused they have.
-use Rattle.std.proofs.Common.{◌≡◌, ℕ, ◌+◌, ◌<◌, ◌≤◌, Bool, true, false, List, [], ◌∷◌, ◌++◌, length, get_or, slice_index, ap, sym, ◌∙◌, subst, refl, arith, zero, suc, inl, inr}
-use Rattle.std.specs.Prelude.{if◌then◌else◌}
+use Rattle.std.proofs.Common.{◌≡◌, ℕ, ◌+◌, ◌<◌, ◌≤◌, Bool, true, false, List, [], ◌∷◌, ◌++◌, length, slice_index, ap, ◌∙◌, subst, refl, arith, inl, inr}
 use Rattle.std.specs.List.{Contains}
 use Rattle.std.proofs.lemmas.Bool.{cases_lt}
 use Rattle.class_format.specs.declared.class.ClassFile.{ClassFile}
@@ -11,9 +10,8 @@ use Rattle.hierarchy.specs.Loops.{on_loop}
 use Rattle.hierarchy.proofs.LoopLaws.{loop_under, under_loop}
 use Rattle.hierarchy.proofs.Tests.{not_true}
 use Rattle.std.proofs.Math.ListN.{get_or-eq_default}
-use Rattle.link_rules.specs.declared.error.LinkErr.{LinkErr}
 use Rattle.link_rules.specs.declared.error.LinkWhy.TheVariants.{SuperLoop}
-use Rattle.link_rules.specs.Answers.{refusal, refused_if}
+use Rattle.link_rules.specs.Answers.{refused_if}
 use Rattle.link_rules.specs.Classes.{super_loop}
 use Rattle.link_rules.specs.Numbers.{numbered}
 use Rattle.link_members.specs.Rows.{IsFalling}

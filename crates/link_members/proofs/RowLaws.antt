@@ -1,17 +1,16 @@
 -- Rows of numbers lie within the classes, and ranks of all steps are those of each.
-use Rattle.std.proofs.Common.{◌≡◌, ℕ, ◌<◌, ◌+◌, ◌⊎◌, List, [], ◌∷◌, ◌++◌, Option, Some, None, map, length, get_or, slice_index, position, ap, sym, ◌∙◌, subst, refl, arith, zero, suc, inl, inr}
+use Rattle.std.proofs.Common.{◌≡◌, ℕ, ◌<◌, List, [], ◌∷◌, ◌++◌, Option, Some, None, map, length, sym, ◌∙◌, subst, refl, arith, zero, suc, inl, inr}
 use Rattle.std.specs.List.{All, AllByRecursion, Contains, filter_map, cons_option}
 use Rattle.std.specs.Option.{option_to_list}
 use Rattle.std.proofs.lemmas.List.{length-map}
 use Rattle.std.proofs.lemmas.List.Elements.{Contains-append_left, Contains-append_right, Contains-append_cases}
 use Rattle.std.proofs.lemmas.List.Quantifiers.{position-Some}
-use Rattle.std.proofs.Math.ListN.{get_or-map}
 use Rattle.class_format.specs.declared.class.ClassFile.{ClassFile}
 use Rattle.class_format.proofs.Recursion.{all_of}
 use Rattle.class_names.specs.Known.{is_name}
 use Rattle.class_names.specs.Classes.{this_name, super_text, interface_texts}
 use Rattle.hierarchy.specs.Hierarchy.{row_of, IsWithin, IsRanked}
-use Rattle.link_rules.specs.Numbers.{number_of, super_row, interface_row, above_rows}
+use Rattle.link_rules.specs.Numbers.{number_of, super_row, interface_row}
 use Rattle.link_members.specs.declared.row_table.Step.{Step}
 use Rattle.link_members.specs.declared.row_table.Step.TheVariants.{Super, Interfaces, Above, Fields}
 use Rattle.link_members.specs.Rows.{row_by}

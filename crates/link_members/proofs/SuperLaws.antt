@@ -1,12 +1,10 @@
 -- Walks upwards over superclasses, in their tables.
-use Rattle.std.proofs.Common.{◌≡◌, ℕ, ◌+◌, ◌<◌, Bool, true, false, not, ◌||◌, List, [], ◌∷◌, ◌++◌, length, slice_index, ap, sym, ◌∙◌, subst, refl, arith, inl, inr}
+use Rattle.std.proofs.Common.{◌≡◌, ℕ, ◌+◌, ◌<◌, Bool, true, false, not, ◌||◌, List, [], ◌∷◌, ◌++◌, length, ap, sym, ◌∙◌, subst, refl, arith, inl, inr}
 use Rattle.std.specs.Prelude.{◌==◌, ◌&&◌, if◌then◌else◌}
 use Rattle.std.specs.List.{flat_map, list_any}
-use Rattle.std.proofs.lemmas.Bool.Decides.{nat_tests}
 use Rattle.std.proofs.lemmas.List.Folds.{list_any-append}
-use Rattle.hierarchy.specs.Hierarchy.{row_of, IsRanked, Under}
-use Rattle.hierarchy.specs.Hierarchy.Under.{directly, over}
-use Rattle.hierarchy.specs.Walks.{all_from, has, add_one, add_new, firsts, IsWalked}
+use Rattle.hierarchy.specs.Hierarchy.{row_of, IsRanked}
+use Rattle.hierarchy.specs.Walks.{all_from, has, add_one, add_new, IsWalked}
 use Rattle.hierarchy.specs.Loops.{above_by}
 use Rattle.hierarchy.proofs.LoopLaws.{over_under}
 use Rattle.hierarchy.proofs.Tests.{or_split, or_false, or_assoc, not_true, equal_from, equal_to}

@@ -17,10 +17,7 @@ use Rattle.link_rules.specs.Members.{method_name, method_desc, is_unlike, is_ini
 use Rattle.link_rules.specs.Numbers.{numbered, supers_of}
 use Rattle.link_rules.specs.Packages.{is_one_package}
 use Rattle.link_members.specs.declared.declarations.Declared.{Declared}
-
--- a name and a descriptor
-abbrev pub Pair : Type 0
-Pair = List ℕ × List ℕ
+use Rattle.link_members.specs.Signs.{Pair, Sign, sign_of, is_sign, is_signed}
 
 -- those of a method
 abbrev pub signature_of : ClassFile → MethodItem → Pair
@@ -30,38 +27,52 @@ signature_of g m = (method_name g m, method_desc g m)
 abbrev pub is_signature : Pair → Pair → Bool
 is_signature a b = is_name a.0 b.0 && is_name a.1 b.1
 
--- methods by signature
+-- methods by the numbers of their signatures
 abbrev pub Table : Type 0
-Table = List (Pair × List Declared)
+Table = List (Sign × List Declared)
 
--- those of a signature
-abbrev pub declared_at : Table → Pair → List Declared
-declared_at table s = from [] (λ methods. methods) (lookup (is_signature s) table)
+-- those of a sign, and those of a signature
+abbrev pub methods_at : Table → Sign → List Declared
+methods_at table k = from [] (λ methods. methods) (lookup (is_sign k) table)
 
--- a method, where it has the signature
-abbrev pub declared_if : Pair → Declared → Pair → List Declared
-declared_if own m s = if is_signature own s then m ∷ [] else []
+abbrev pub declared_at : List (List ℕ) → Table → Pair → List Declared
+declared_at names table s = from [] (methods_at table) (sign_of names s)
 
 -- a method of the class of a number, where it has the signature
 abbrev pub declared_one : Pair → ℕ → ClassFile → MethodItem → List Declared
-declared_one s k g m = declared_if (signature_of g m) (record { class = k; flags = m.flags }) s
+declared_one s k g m =
+    if is_signature (signature_of g m) s then record { class = k; flags = m.flags } ∷ [] else []
 
 -- the methods of a signature that a class declares
 abbrev pub declared_in : Pair → ℕ → ClassFile → List Declared
 declared_in s k g = flat_map (declared_one s k g) g.methods
 
 -- a table has the methods of all classes
-abbrev pub AreDeclared : List ClassFile → Table → Type 0
-AreDeclared all table = (s : Pair) → declared_at table s ≡ numbered (declared_in s) 0 all
+abbrev pub AreDeclared : List ClassFile → List (List ℕ) → Table → Type 0
+AreDeclared all names table =
+    (s : Pair) → declared_at names table s ≡ numbered (declared_in s) 0 all
 
--- a table has for each signature some methods more
-abbrev pub Gains : Table → Table → (Pair → List Declared) → Type 0
-Gains old new more = (s : Pair) → declared_at new s ≡ declared_at old s ++ more s
+-- a method, where it has the sign
+abbrev pub signed_if : Option Sign → Declared → Sign → List Declared
+signed_if own m k = if is_signed own k then m ∷ [] else []
 
--- a table has these methods at a signature, and what was there at the others
-abbrev pub IsPut : Table → Table → Pair → List Declared → Type 0
+-- a method of the class of a number, likewise
+abbrev pub signed_one : List (List ℕ) → Sign → ℕ → ClassFile → MethodItem → List Declared
+signed_one names k c g m =
+    signed_if (sign_of names (signature_of g m)) (record { class = c; flags = m.flags }) k
+
+-- the methods of a sign that a class declares
+abbrev pub signed_in : List (List ℕ) → Sign → ℕ → ClassFile → List Declared
+signed_in names k c g = flat_map (signed_one names k c g) g.methods
+
+-- a table has for each sign some methods more
+abbrev pub Gains : Table → Table → (Sign → List Declared) → Type 0
+Gains old new more = (k : Sign) → methods_at new k ≡ methods_at old k ++ more k
+
+-- a table has these methods at a sign, and what was there at the others
+abbrev pub IsPut : Table → Table → Sign → List Declared → Type 0
 IsPut old new key methods =
-    (s : Pair) → declared_at new s ≡ (if is_signature key s then methods else declared_at old s)
+    (k : Sign) → methods_at new k ≡ (if is_sign key k then methods else methods_at old k)
 
 -- the name of the class of a number
 abbrev pub name_at : List ClassFile → ℕ → List ℕ
@@ -103,15 +114,18 @@ abbrev pub replaces_badly : List (Option Bool) → ℕ → Declared → Bool
 replaces_badly near m o = is_unlike m o.flags && is_inherited_at near o
 
 -- a method of these flags replaces one of its signature that it may not replace
-abbrev pub replaces_any : Table → List (Option Bool) → ℕ → Pair → Bool
-replaces_any table near flags s = list_any (replaces_badly near flags) (declared_at table s)
+abbrev pub replaces_any : List (List ℕ) → Table → List (Option Bool) → ℕ → Pair → Bool
+replaces_any names table near flags s =
+    list_any (replaces_badly near flags) (declared_at names table s)
 
 -- a method of f overrides badly, by the tables
-abbrev pub is_bad_by : Table → List (Option Bool) → ClassFile → MethodItem → Bool
-is_bad_by table near f m =
-    not (is_initialiser (method_name f m)) && replaces_any table near m.flags (signature_of f m)
+abbrev pub is_bad_by : List (List ℕ) → Table → List (Option Bool) → ClassFile → MethodItem → Bool
+is_bad_by names table near f m =
+    not (is_initialiser (method_name f m))
+    && replaces_any names table near m.flags (signature_of f m)
 
 -- its refusal
-abbrev pub bad_by : Table → List (Option Bool) → ClassFile → MethodItem → List LinkErr
-bad_by table near f m =
-    refused_if (is_bad_by table near f m) BadOverride f (method_name f m ++ method_desc f m)
+abbrev pub bad_by : List (List ℕ) → Table → List (Option Bool) → ClassFile → MethodItem
+    → List LinkErr
+bad_by names table near f m =
+    refused_if (is_bad_by names table near f m) BadOverride f (method_name f m ++ method_desc f m)

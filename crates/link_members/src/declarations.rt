@@ -1,62 +1,19 @@
-//! The methods that classes declare, by name and descriptor.
+//! The methods that classes declare, by the numbers of their name and descriptor.
 
-ghost use Rattle.std.specs.Prelude.{◌≡◌, ◌++◌, ◌∷◌, ◌+◌, ◌<◌, ◌≤◌, ◌^◌, ◌&&◌, [], length, nat_eq, IfOk, OnOk, if◌then◌else◌};
+ghost use Rattle.std.specs.Prelude.{◌≡◌, ◌++◌, ◌∷◌, ◌+◌, ◌<◌, ◌^◌, [], length, IfOk, OnOk, if◌then◌else◌};
 ghost use Rattle.std.specs.List.{flat_map};
-ghost use Rattle.std.specs.Cmp.Lexicographic.{pointwise};
-ghost use Rattle.std.specs.Cmp.Rules.{comparing, hashing};
-ghost use Rattle.std.specs.Hash as fed;
-ghost use Rattle.std.proofs.Common.{rules};
 ghost use Rattle.link_rules.specs.Numbers.{numbered};
-ghost use Rattle.link_members.specs.Declarations.{Pair, signature_of, is_signature, declared_at, declared_if, declared_in, AreDeclared, Gains, IsPut};
+ghost use Rattle.link_members.specs.Declarations.{methods_at, signed_if, signed_in, AreDeclared, Gains, IsPut};
+ghost use Rattle.link_members.specs.Signs.{Sign, is_sign, name_number, text_names};
+ghost use Rattle.link_members.specs.Told.{AreTold};
 
-use crate::declared::{method_desc, method_name};
-use class_format::{ClassFile, MethodItem};
+use crate::signs::{Sign, name_numbers, sign_of, text_names};
+use class_format::ClassFile;
+use class_names::Names;
 use jvm_base::{List, NoMemory};
 use link_rules::Program;
 use std::alloc::Global;
 use std::collections::HashMap;
-use std::hash::{Hash, Hasher};
-use std::marker::Model;
-
-/// A name and a descriptor. The texts are lent.
-#[derive(Drop)]
-pub(crate) struct Signature<'a> {
-    name: &'a [u16],
-    desc: &'a [u16],
-}
-
-impl<'a> Model for Signature<'a> {
-    ghost use Rattle.std.specs.Prelude.{List as Items, ℕ};
-
-    ghost Value = { Items ℕ × Items ℕ };
-
-    ghost view = { λ a. (a.name.now, a.desc.now) };
-}
-
-impl<'a> PartialEq for Signature<'a> {
-    ghost eq = { λ a b. pointwise nat_eq a.0 b.0 && pointwise nat_eq a.1 b.1 };
-
-    ghost laws = { Prim.search (comparing, rules) };
-
-    fn eq(&self, other: &Signature<'a>) -> bool {
-        self.name == other.name && self.desc == other.desc
-    }
-}
-
-impl<'a> Eq for Signature<'a> {
-    ghost laws = { Prim.search (comparing, rules) };
-}
-
-impl<'a> Hash for Signature<'a> {
-    ghost hash_input = { λ a. fed.slice fed.u16 a.0 ++ fed.slice fed.u16 a.1 };
-
-    ghost respects_eq = { Prim.search (hashing, rules) };
-
-    fn hash<H: Hasher>(&self, state: &mut H) {
-        self.name.hash(state);
-        self.desc.hash(state);
-    }
-}
 
 /// A method that a class declares: the number of the class and the method's flags.
 #[derive(Clone, Copy)]
@@ -65,103 +22,135 @@ pub(crate) struct Declared {
     pub flags: u16,
 }
 
-/// The methods of each name and descriptor, class by class.
-pub(crate) type Declarations<'a> = HashMap<Signature<'a>, List<Declared>>;
+/// The methods of each sign, class by class.
+pub(crate) type Methods = HashMap<Sign, List<Declared>>;
 
-/// The signature of a method.
-pub(crate) fn signature_of<'a>(file: &'a ClassFile, method: &MethodItem) -> Signature<'a>
-    ensures { result ≡ signature_of file.now method.now }
-{
-    Signature {
-        name: method_name(file, method),
-        desc: method_desc(file, method),
-    }
+/// The texts of all classes, and their methods by sign.
+#[derive(Drop)]
+pub(crate) struct Declarations<'a> {
+    pub names: Names<'a>,
+    pub methods: Methods,
 }
 
-/// Takes the methods of a signature out.
-fn take<'a>(
-    alloc: Global,
-    declarations: &mut Declarations<'a>,
-    signature: &Signature<'a>,
-) -> List<Declared>
-    ensures taken { result ≡ declared_at declarations.old.entries signature.now }
-    ensures left { IsPut declarations.old.entries declarations.new.entries signature.now [] }
+/// Takes the methods of a sign out.
+fn take(alloc: Global, methods: &mut Methods, sign: &Sign) -> List<Declared>
+    ensures taken { result ≡ methods_at methods.old.entries sign.now }
+    ensures left { IsPut methods.old.entries methods.new.entries sign.now [] }
 {
-    match declarations.remove(signature) {
-        Some(methods) => methods,
+    match methods.remove(sign) {
+        Some(taken) => taken,
         None => List::new(alloc),
     }
 }
 
-/// Puts methods at a signature.
-fn put<'a>(
-    declarations: &mut Declarations<'a>,
-    signature: Signature<'a>,
-    methods: List<Declared>,
-) -> Result<(), NoMemory>
-    ensures { OnOk result
-        (IsPut declarations.old.entries declarations.new.entries signature.entry methods) }
+/// Puts methods at a sign.
+fn put(methods: &mut Methods, sign: Sign, some: List<Declared>) -> Result<(), NoMemory>
+    ensures { OnOk result (IsPut methods.old.entries methods.new.entries sign some) }
 {
-    declarations.insert(signature, methods)?;
+    methods.insert(sign, some)?;
     Ok(())
 }
 
-/// Adds a method of a signature.
-fn add_one<'a>(
+/// Adds a method of a sign.
+fn add_one(
     alloc: Global,
-    declarations: &mut Declarations<'a>,
-    signature: Signature<'a>,
+    methods: &mut Methods,
+    sign: Sign,
     method: Declared,
 ) -> Result<(), NoMemory>
-    ensures { OnOk result (Gains declarations.old.entries declarations.new.entries
-        (declared_if signature.entry method)) }
+    ensures { OnOk result (Gains methods.old.entries methods.new.entries
+        (λ k. if is_sign sign k then method ∷ [] else [])) }
 {
-    let mut methods = take(alloc, declarations, &signature);
-    methods.push(method)?;
-    put(declarations, signature, methods)?;
+    let mut some = take(alloc, methods, &sign);
+    some.push(method)?;
+    put(methods, sign, some)?;
+    Ok(())
+}
+
+/// Adds a method, where it has a sign.
+fn add_signed(
+    alloc: Global,
+    methods: &mut Methods,
+    sign: Option<Sign>,
+    method: Declared,
+) -> Result<(), NoMemory>
+    ensures { OnOk result (Gains methods.old.entries methods.new.entries
+        (signed_if sign method)) }
+{
+    match sign {
+        Some(sign) => add_one(alloc, methods, sign, method),
+        None => Ok(()),
+    }
+}
+
+/// Adds the methods of the class of a number, whose pool's texts have these numbers.
+fn add_methods(
+    alloc: Global,
+    methods: &mut Methods,
+    names: &Names,
+    told: &[Option<usize>],
+    class: u32,
+    file: &ClassFile,
+) -> Result<(), NoMemory>
+    requires { AreTold (name_number names.now) file.now.pool told.now }
+    ensures { OnOk result (Gains methods.old.entries methods.new.entries
+        (λ k. signed_in names.now k class file.now)) }
+{
+    let added = file.methods.as_slice();
+    for method in added {
+        let sign = sign_of(names, told, file, method);
+        let flags = method.flags;
+        add_signed(alloc, methods, sign, Declared { class, flags })?;
+    }
     Ok(())
 }
 
 /// Adds the methods of the class of a number.
-fn add_methods<'a>(
+fn add_class(
     alloc: Global,
-    declarations: &mut Declarations<'a>,
+    methods: &mut Methods,
+    names: &Names,
     class: u32,
-    file: &'a ClassFile,
+    file: &ClassFile,
 ) -> Result<(), NoMemory>
-    ensures { OnOk result (Gains declarations.old.entries declarations.new.entries
-        (λ s. declared_in s class file.now)) }
+    ensures { OnOk result (Gains methods.old.entries methods.new.entries
+        (λ k. signed_in names.now k class file.now)) }
 {
-    let methods = file.methods.as_slice();
-    for method in methods {
-        let flags = method.flags;
-        add_one(
-            alloc,
-            declarations,
-            signature_of(file, method),
-            Declared { class, flags },
-        )?;
+    let told = name_numbers(alloc, names, file.pool.as_slice())?;
+    add_methods(alloc, methods, names, told.as_slice(), class, file)
+}
+
+/// Adds the methods of some classes, which are numbered from `first` on.
+fn add_classes(
+    alloc: Global,
+    methods: &mut Methods,
+    names: &Names,
+    first: usize,
+    files: &[ClassFile],
+) -> Result<(), NoMemory>
+    requires { first + length files.now < 2 ^ 25 }
+    ensures { OnOk result (Gains methods.old.entries methods.new.entries
+        (λ k. numbered (signed_in names.now k) first files.now)) }
+{
+    let mut number = first;
+    for file in files {
+        add_class(alloc, methods, names, number as u32, file)?;
+        number += 1;
     }
     Ok(())
 }
 
-/// Adds the methods of some classes, which are numbered from `first` on.
-fn add_classes<'a>(
-    alloc: Global,
-    declarations: &mut Declarations<'a>,
-    first: usize,
-    files: &'a [ClassFile],
-) -> Result<(), NoMemory>
-    requires { first + length files.now < 2 ^ 25 }
-    ensures { OnOk result (Gains declarations.old.entries declarations.new.entries
-        (λ s. numbered (declared_in s) first files.now)) }
+/// The methods of all classes by sign.
+fn all_methods(alloc: Global, program: &Program, names: &Names) -> Result<Methods, NoMemory>
+    requires { length program.now < 2 ^ 25 }
+    ensures { IfOk result (λ methods. (k : Sign) → methods_at methods.entries k
+        ≡ numbered (signed_in names.now k) 0 program.now) }
 {
-    let mut number = first;
-    for file in files {
-        add_methods(alloc, declarations, number as u32, file)?;
-        number += 1;
-    }
-    Ok(())
+    let mut methods = HashMap::new(alloc);
+    let (boot, files) = program.parts();
+    add_classes(alloc, &mut methods, names, 0, boot)?;
+    add_classes(alloc, &mut methods, names, boot.len(), files)?;
+    Ok(methods)
 }
 
 /// The methods of all classes.
@@ -170,11 +159,10 @@ pub(crate) fn declare_all<'a>(
     program: &'a Program<'_>,
 ) -> Result<Declarations<'a>, NoMemory>
     requires { length program.now < 2 ^ 25 }
-    ensures { IfOk result (λ declarations. AreDeclared program.now declarations.entries) }
+    ensures { IfOk result (λ declarations.
+        AreDeclared program.now declarations.names declarations.methods.entries) }
 {
-    let mut declarations = HashMap::new(alloc);
-    let (boot, files) = program.parts();
-    add_classes(alloc, &mut declarations, 0, boot)?;
-    add_classes(alloc, &mut declarations, boot.len(), files)?;
-    Ok(declarations)
+    let names = text_names(alloc, program)?;
+    let methods = all_methods(alloc, program, &names)?;
+    Ok(Declarations { names, methods })
 }

@@ -6,11 +6,13 @@ mod declared;
 mod loops;
 mod near;
 mod overrides;
+mod package_numbers;
 mod packages;
 mod row_table;
+mod signs;
 
 pub use declared::check_declared;
 pub use loops::check_loops;
 pub use overrides::check_overrides;
-pub use packages::is_one_package;
+pub use packages::{is_one_package, package};
 pub use row_table::{Step, rows};

@@ -20,7 +20,8 @@ fn last_slash(name: &[u16]) -> usize
     0
 }
 
-fn package(name: &[u16]) -> &[u16]
+/// The package of the class of a name: the name up to the last `/`.
+pub fn package(name: &[u16]) -> &[u16]
     ensures { result.now ≡ package_of name.now }
 {
     &name[..last_slash(name)]

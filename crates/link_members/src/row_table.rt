@@ -4,14 +4,16 @@ ghost use Rattle.std.specs.Prelude.{◌≡◌, ◌++◌, ◌<◌, ◌^◌, lengt
 ghost use Rattle.std.specs.List.{filter_map};
 ghost use Rattle.std.specs.Option.{option_to_list};
 ghost use Rattle.class_names.specs.Classes.{super_text};
-ghost use Rattle.class_names.specs.Texts.{class_text};
+ghost use Rattle.class_names.specs.Texts.{class_text, text_in};
 ghost use Rattle.hierarchy.specs.Hierarchy.{IsWithin};
 ghost use Rattle.link_rules.specs.Numbers.{number_of, super_row, interface_row};
 ghost use Rattle.link_members.specs.Rows.{row_by};
+ghost use Rattle.link_members.specs.Told.{AreTold};
 
 use class_format::ClassFile;
-use class_names::{class_text, super_text};
-use jvm_base::{List, NoMemory};
+use class_names::{super_text, text};
+use constant_pool::class_at;
+use jvm_base::{List, NoMemory, PoolItem};
 use link_rules::Program;
 use std::alloc::Global;
 
@@ -49,15 +51,108 @@ fn add_super(row: &mut List<u32>, program: &Program, file: &ClassFile) -> Result
     }
 }
 
-fn add_interfaces(row: &mut List<u32>, program: &Program, file: &ClassFile) -> Result<(), NoMemory>
+/// The numbers of the classes that the texts of a pool name.
+fn class_numbers(
+    alloc: Global,
+    program: &Program,
+    pool: &[PoolItem],
+) -> Result<List<Option<usize>>, NoMemory>
+    ensures { IfOk result (λ told. AreTold (number_of program.now) pool.now told) }
+{
+    let mut told = List::new(alloc);
+    let count = pool.len().min(u16::MAX as usize) as u16;
+    for index in 0..count {
+        told.push(program.number(text(pool, index)))?;
+    }
+    Ok(told)
+}
+
+/// The number of the class of the text at an index.
+fn text_number(
+    program: &Program,
+    told: &[Option<usize>],
+    pool: &[PoolItem],
+    index: u16,
+) -> Option<usize>
+    requires { AreTold (number_of program.now) pool.now told.now }
+    ensures { result ≡ number_of program.now (text_in pool.now index) }
+{
+    match told.get(index as usize) {
+        Some(number) => *number,
+        None => program.number(text(pool, index)),
+    }
+}
+
+/// The number of the class of the class item at an index.
+fn item_number(
+    program: &Program,
+    told: &[Option<usize>],
+    pool: &[PoolItem],
+    index: u16,
+) -> Option<usize>
+    requires { AreTold (number_of program.now) pool.now told.now }
+    ensures { result ≡ number_of program.now (class_text pool.now index) }
+{
+    match class_at(pool, index) {
+        Some(name) => text_number(program, told, pool, name),
+        None => program.number(&[]),
+    }
+}
+
+/// Adds the number of the class of a class item, if it is there.
+fn add_item(
+    row: &mut List<u32>,
+    program: &Program,
+    told: &[Option<usize>],
+    pool: &[PoolItem],
+    index: u16,
+) -> Result<(), NoMemory>
+    requires few { length program.now < 2 ^ 32 }
+    requires told { AreTold (number_of program.now) pool.now told.now }
+    ensures { OnOk result (row.new
+        ≡ row.old ++ option_to_list (number_of program.now (class_text pool.now index))) }
+{
+    match item_number(program, told, pool, index) {
+        Some(number) => row.push(number as u32),
+        None => Ok(()),
+    }
+}
+
+fn add_items(
+    row: &mut List<u32>,
+    program: &Program,
+    told: &[Option<usize>],
+    pool: &[PoolItem],
+    items: &[u16],
+) -> Result<(), NoMemory>
+    requires few { length program.now < 2 ^ 32 }
+    requires told { AreTold (number_of program.now) pool.now told.now }
+    ensures { OnOk result (row.new
+        ≡ row.old ++ filter_map (number_of program.now) (map (class_text pool.now) items.now)) }
+{
+    for item in items {
+        add_item(row, program, told, pool, *item)?;
+    }
+    Ok(())
+}
+
+/// Adds the numbers of the interfaces. Each text of the pool is looked up once, however many
+/// interfaces have it as their name.
+fn add_interfaces(
+    alloc: Global,
+    row: &mut List<u32>,
+    program: &Program,
+    file: &ClassFile,
+) -> Result<(), NoMemory>
     requires { length program.now < 2 ^ 32 }
     ensures { OnOk result (row.new ≡ row.old ++ interface_row program.now file.now) }
 {
-    let interfaces = file.interfaces.as_slice();
-    for interface in interfaces {
-        add_number(row, program, class_text(file.pool.as_slice(), *interface))?;
+    let (pool, interfaces) = (file.pool.as_slice(), file.interfaces.as_slice());
+    if interfaces.is_empty() {
+        return Ok(());
     }
-    Ok(())
+    let told = class_numbers(alloc, program, pool)?;
+    add_items(row, program, told.as_slice(), pool, interfaces)
 }
 
 /// The numbers directly above a class.
@@ -73,13 +168,13 @@ fn row(
     let mut row = List::new(alloc);
     match step {
         Step::Super => add_super(&mut row, program, file)?,
-        Step::Interfaces => add_interfaces(&mut row, program, file)?,
+        Step::Interfaces => add_interfaces(alloc, &mut row, program, file)?,
         Step::Above => {
             add_super(&mut row, program, file)?;
-            add_interfaces(&mut row, program, file)?;
+            add_interfaces(alloc, &mut row, program, file)?;
         }
         Step::Fields => {
-            add_interfaces(&mut row, program, file)?;
+            add_interfaces(alloc, &mut row, program, file)?;
             add_super(&mut row, program, file)?;
         }
     }

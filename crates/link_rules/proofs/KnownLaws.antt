@@ -1,6 +1,6 @@
 -- A text of which a table tells that it names only classes that are there isn't refused.
-use Rattle.std.proofs.Common.{◌≡◌, ℕ, Bool, true, false, not, ◌&&◌, List, [], ◌∷◌, ◌++◌, Option, Some, None, refl, sym, ap, ◌∙◌, subst}
-use Rattle.std.specs.Prelude.{if◌then◌else◌}
+use Rattle.std.proofs.Common.{◌≡◌, ℕ, Bool, true, false, ◌&&◌, List, [], ◌∷◌, Option, Some, None, refl, sym, subst}
+use Rattle.std.specs.Prelude.{if◌then◌else◌, slice_get}
 use Rattle.std.specs.List.{flat_map, list_all}
 use Rattle.std.specs.Option.{option_to_list}
 use Rattle.jvm_base.specs.declared.desc.Desc.{Desc}
@@ -10,7 +10,7 @@ use Rattle.jvm_base.specs.Descriptors.{desc_of, method_of}
 use Rattle.jvm_base.specs.Words.{from}
 use Rattle.class_format.specs.declared.class.ClassFile.{ClassFile}
 use Rattle.class_names.specs.Known.{is_known}
-use Rattle.class_names.specs.Texts.{is_array, member_in}
+use Rattle.class_names.specs.Texts.{is_array, member_in, text_in}
 use Rattle.class_names.specs.Named.{desc_names}
 use Rattle.link_rules.specs.declared.error.LinkErr.{LinkErr}
 use Rattle.link_rules.specs.Classes.{missing}
@@ -86,6 +86,25 @@ method_told names f pool told item m tested is_method is_told =
     let h = text_passes (knows_method_text names) pool told (member_in pool item).desc tested is_told in
     let g : from true (knows_method names) (Some m) ≡ true = subst (λ (o : Option MethodDesc). from true (knows_method names) o ≡ true) is_method h in
     method_known names f m g
+
+-- the descriptor at an index, where none may lie in the text
+desc_let : (names : List (List ℕ)) (f : ClassFile) (d : Option Desc) → from true (knows_desc names) d ≡ true → from [] (missing_desc names f) d ≡ []
+desc_let names f None h = refl
+desc_let names f (Some d) h = desc_known names f d h
+
+method_let : (names : List (List ℕ)) (f : ClassFile) (m : Option MethodDesc) → from true (knows_method names) m ≡ true → from [] (missing_method_desc names f) m ≡ []
+method_let names f None h = refl
+method_let names f (Some m) h = method_known names f m h
+
+-- that of a field which a class declares
+pub declared_field_told : (names : List (List ℕ)) (f : ClassFile) (pool : List PoolItem) (told : List Bool) (i : ℕ) → AreTested (knows_field_text names) pool told → slice_get told i ≡ Some true → from [] (missing_desc names f) (desc_of (text_in pool i)) ≡ []
+unfolding knows_field_text
+declared_field_told names f pool told i tested h = desc_let names f (desc_of (text_in pool i)) (sym (tested i true h))
+
+-- that of a method
+pub declared_method_told : (names : List (List ℕ)) (f : ClassFile) (pool : List PoolItem) (told : List Bool) (i : ℕ) → AreTested (knows_method_text names) pool told → slice_get told i ≡ Some true → from [] (missing_method_desc names f) (method_of (text_in pool i)) ≡ []
+unfolding knows_method_text
+declared_method_told names f pool told i tested h = method_let names f (method_of (text_in pool i)) (sym (tested i true h))
 
 -- ---- left-out-desc
 

@@ -1,5 +1,5 @@
 -- A table of marks grows by one text.
-use Rattle.std.proofs.Common.{◌≡◌, ℕ, zero, suc, ◌+◌, ◌<◌, Bool, List, [], ◌∷◌, ◌++◌, length, Some, None, Option, slice_get, refl, sym, ap, ◌∙◌, subst, arith}
+use Rattle.std.proofs.Common.{◌≡◌, ℕ, zero, suc, ◌+◌, Bool, List, [], ◌∷◌, ◌++◌, length, Some, slice_get, sym, ap, ◌∙◌, subst}
 use Rattle.std.proofs.lemmas.List.{length_push}
 use Rattle.jvm_base.specs.declared.pool.PoolItem.{PoolItem}
 use Rattle.class_names.specs.Texts.{text_in}

@@ -14,7 +14,6 @@ use Rattle.code_table.specs.declared.error.CodeErr.{CodeErr}
 use Rattle.code_table.specs.declared.error.CodeErr.TheVariants.{UnknownOp, CutOp, BadIndex, BadSwitch, LeftOutOp}
 use Rattle.code_table.specs.declared.op.Op.{Op}
 use Rattle.code_table.specs.declared.op.Op.TheVariants.{TableSwitch as TableOp, LookupSwitch as LookupOp}
-use Rattle.code_table.specs.declared.code.Placed.{Placed}
 use Rattle.code_table.specs.ElementKinds.{is_kind, is_left_out_kind}
 use Rattle.code_table.specs.Forms.{Form, Alone, Byte, Short, Local, LocalAndByte, Near, Far, Constant, ConstantW, Constant2W, OnField, OnMethod, OnInterface, OnClass, ElementClass, ElementKind, Dimensions, LeftOutLocal, size, meaning}
 use Rattle.code_table.specs.Items.{class_dimensions, pair_of_field, pair_of_method, pair_of_interface_method, field_desc, method_desc, interface_method_desc}
@@ -22,7 +21,7 @@ use Rattle.code_table.specs.Instructions.{sized_at, wide_of, widened}
 use Rattle.code_table.specs.Numbers.{number_at, signed_at, target}
 use Rattle.code_table.specs.Pooled.{loaded, loaded_2w, field, method, interface_method, on_class, on_element, on_dimensions, element_kind}
 use Rattle.code_table.specs.Switches.{operands_from, targets_from, pairs_from, rise, table_switch_at, lookup_switch_at}
-use Rattle.class_names.specs.Texts.{text_in, member_of_pair, member_of, member_in}
+use Rattle.class_names.specs.Texts.{member_of_pair, member_of}
 use Rattle.link_rules.specs.Walks.Spelled.{IsField, IsMethod, IsSpelled, IsSpelledPlaced}
 
 -- P holds of what was read, if something was

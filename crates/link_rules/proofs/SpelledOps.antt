@@ -1,5 +1,5 @@
 -- The descriptor that a decoded instruction holds is the one that its item names.
-use Rattle.std.proofs.Common.{◌≡◌, sym, subst, refl, ℕ, zero, suc, ◌+◌, true, false, List, [], ◌∷◌, length, Option, Some, None, Result, Ok, Err, nat_lt, ◌==◌, if◌then◌else◌}
+use Rattle.std.proofs.Common.{◌≡◌, sym, subst, refl, ℕ, ◌+◌, true, false, List, [], ◌∷◌, length, Option, Some, None, Result, Ok, Err, nat_lt, ◌==◌, if◌then◌else◌}
 use Rattle.std.specs.List.{All, AllByRecursion}
 use Rattle.std.specs.Prelude.{find, option_and_then}
 use Rattle.std.specs.Int.{w8}
@@ -12,7 +12,6 @@ use Rattle.code_table.specs.declared.error.CodeErr.{CodeErr}
 use Rattle.code_table.specs.declared.error.CodeErr.TheVariants.{UnknownOp, LeftOutOp, CutOp}
 use Rattle.code_table.specs.declared.code.Code.{Code}
 use Rattle.code_table.specs.declared.code.Placed.{Placed}
-use Rattle.code_table.specs.Accepted.{IsCode}
 use Rattle.code_table.specs.Decoded.{decoded}
 use Rattle.code_table.specs.Forms.{Form, TableSwitch, LookupSwitch, Wide, LeftOut, LeftOutLocal, Unknown}
 use Rattle.code_table.specs.Instructions.{wide_at, by_form, instruction_at}
@@ -21,7 +20,7 @@ use Rattle.code_table.specs.Sequences.{Leads}
 use Rattle.code_table.specs.Table.{Row, table, form_in, form_at}
 use Rattle.code_table.proofs.Acceptance.{is_code}
 use Rattle.class_names.specs.Classes.{ok_of, code_of, ops_of}
-use Rattle.link_rules.specs.Walks.Spelled.{IsSpelled, IsSpelledPlaced}
+use Rattle.link_rules.specs.Walks.Spelled.{IsSpelledPlaced}
 use Rattle.link_rules.proofs.SpelledForms.{Holds, bad, tested, IsSpelledForm, widened_spelled, sized_spelled, table_spelled, lookup_spelled}
 
 -- ---- the table

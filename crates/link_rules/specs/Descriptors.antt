@@ -7,6 +7,7 @@ use Rattle.jvm_base.specs.declared.desc.Desc.{Desc}
 use Rattle.jvm_base.specs.declared.desc.Elem.{Elem}
 use Rattle.jvm_base.specs.declared.desc.Elem.TheVariants.{Float, Double}
 use Rattle.jvm_base.specs.declared.desc.MethodDesc.{MethodDesc}
+use Rattle.jvm_base.specs.declared.pool.PoolItem.{PoolItem}
 use Rattle.jvm_base.specs.Descriptors.{desc_of, method_of}
 use Rattle.jvm_base.specs.Words.{from}
 use Rattle.class_format.specs.declared.class.ClassFile.{ClassFile}
@@ -19,7 +20,9 @@ use Rattle.class_names.specs.Texts.{Member, is_array, text_in, class_text, membe
 use Rattle.class_names.specs.Classes.{ops_of, table_of}
 use Rattle.link_rules.specs.declared.error.LinkErr.{LinkErr}
 use Rattle.link_rules.specs.declared.error.LinkWhy.TheVariants.{LeftOutDesc}
+use Rattle.link_rules.specs.declared.left_out.LeftOut.{LeftOut}
 use Rattle.link_rules.specs.Answers.{refused_if}
+use Rattle.link_rules.specs.Marks.{AreTested}
 
 -- a float or a double
 abbrev pub is_left_out_elem : Elem → Bool
@@ -34,6 +37,13 @@ is_left_out d = is_left_out_elem d.elem
 -- among the parameters, or as the result
 abbrev pub leaves_out : MethodDesc → Bool
 leaves_out m = list_any is_left_out m.args || list_any is_left_out (option_to_list m.ret)
+
+-- in a text that is a field's descriptor, and in one that is a method's
+abbrev pub is_left_out_text : List ℕ → Bool
+is_left_out_text text = from false is_left_out (desc_of text)
+
+abbrev pub leaves_out_text : List ℕ → Bool
+leaves_out_text text = from false leaves_out (method_of text)
 
 -- a member as a refusal names it: its name followed by its descriptor
 abbrev pub key_text : Member → List ℕ
@@ -89,3 +99,10 @@ left_out_method f m = left_out_declared f m ++ left_out_body f m
 
 unfoldable pub left_out_desc : ClassFile → List LinkErr
 left_out_desc f = flat_map (left_out_field f) f.fields ++ flat_map (left_out_method f) f.methods
+
+-- the three tables of a pool: which texts leave a type out, as the text of a class item, as the
+-- descriptor of a field, and as that of a method
+pub record AreLeftOut (pool : List PoolItem) (told : LeftOut) : Type 0 where
+  pub classes : AreTested is_left_out_class pool told.classes
+  pub fields : AreTested is_left_out_text pool told.fields
+  pub methods : AreTested leaves_out_text pool told.methods

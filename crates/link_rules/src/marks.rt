@@ -7,6 +7,13 @@ ghost use Rattle.link_rules.specs.Marks.{IsTold};
 
 use jvm_base::PoolItem;
 
+/// What is told of the text at an index.
+pub(crate) fn told_text(told: &[bool], index: u16) -> Option<bool>
+    ensures { result ≡ slice_get told.now index }
+{
+    told.get(index as usize).copied()
+}
+
 /// What is told of the text of the class item at an index.
 pub fn told_class(told: &[bool], pool: &[PoolItem], index: u16) -> Option<bool>
     ensures { IfSome result (λ b. IsTold told.now pool.now (class_text pool.now index) b) }

@@ -16,7 +16,7 @@ ghost use Rattle.link_rules.specs.Walks.Spelled.{IsField, IsMethod, IsSpelled, I
 use crate::body::{ops, table};
 use crate::error::{LinkErr, LinkWhy};
 use crate::known::{Known, known_texts};
-use crate::marks::{told_class, told_desc, told_owner};
+use crate::marks::{told_class, told_desc, told_owner, told_text};
 use crate::refuse::refuse_class_if;
 use class_format::{ClassFile, FieldItem, MethodItem};
 use class_names::{Names, class_text, desc, is_array, member, method_desc, super_text, text};
@@ -256,16 +256,23 @@ fn check_table(
     Ok(())
 }
 
-/// The class in the descriptor of a field.
+/// The class in the descriptor of a field, which is parsed only where the table doesn't tell that
+/// it is there.
+#[tactic(auto, using(crate::proofs::KnownLaws::declared_field_told))]
 fn check_field(
     alloc: Global,
     names: &Names,
     file: &ClassFile,
+    known: &Known,
     field: &FieldItem,
 ) -> Result<(), LinkErr>
+    requires { AreKnown names.now file.now.pool known.now }
     ensures { IsAnswer (missing_field names.now file.now field.now) result }
 {
-    check_desc_text(alloc, names, file, text(file.pool.as_slice(), field.desc))
+    match told_text(known.fields.as_slice(), field.desc) {
+        Some(true) => Ok(()),
+        _ => check_desc_text(alloc, names, file, text(file.pool.as_slice(), field.desc)),
+    }
 }
 
 #[tactic(auto, using(crate::proofs::Firsts::places_break))]
@@ -273,12 +280,14 @@ fn check_fields(
     alloc: Global,
     names: &Names,
     file: &ClassFile,
+    known: &Known,
     fields: &[FieldItem],
 ) -> Result<(), LinkErr>
+    requires { AreKnown names.now file.now.pool known.now }
     ensures { IsAnswer (flat_map (missing_field names.now file.now) fields.now) result }
 {
     for field in fields {
-        check_field(alloc, names, file, field)?;
+        check_field(alloc, names, file, known, field)?;
     }
     Ok(())
 }
@@ -295,24 +304,48 @@ fn check_body(
 ) -> Result<(), LinkErr>
     requires known { AreKnown names.now file.now.pool known.now }
     requires code { code.now ≡ code_of file.now.pool method.now }
-    ensures { IsAnswer (flat_map (missing_placed names.now file.now) (ops_of file.now.pool method.now) ++ flat_map (missing_entry names.now file.now) (table_of method.now)) result }
+    ensures { IsAnswer
+        (flat_map (missing_placed names.now file.now) (ops_of file.now.pool method.now)
+        ++ flat_map (missing_entry names.now file.now) (table_of method.now)) result }
 {
     check_ops(alloc, names, file, known, ops(code))?;
     check_table(alloc, names, file, known, table(method))
 }
 
-#[tactic(auto, using(crate::proofs::Firsts::answer_back))]
+/// The classes in the descriptor of a method.
+fn check_method_text(
+    alloc: Global,
+    names: &Names,
+    file: &ClassFile,
+    index: u16,
+) -> Result<(), LinkErr>
+    ensures { IsAnswer
+        (from [] (missing_method_desc names.now file.now)
+        (method_of (text_in file.now.pool index))) result }
+{
+    match method_desc(alloc, file.pool.as_slice(), index)? {
+        Some(desc) => check_method_desc(alloc, names, file, &desc),
+        None => Ok(()),
+    }
+}
+
+/// The classes in the descriptor that a method declares, likewise.
+#[tactic(auto, using(crate::proofs::KnownLaws::declared_method_told))]
 fn check_declared_desc(
     alloc: Global,
     names: &Names,
     file: &ClassFile,
+    known: &Known,
     method: &MethodItem,
 ) -> Result<(), LinkErr>
-    ensures { IsAnswer (from [] (missing_method_desc names.now file.now) (method_of (text_in file.now.pool method.now.desc))) result }
+    requires { AreKnown names.now file.now.pool known.now }
+    ensures { IsAnswer
+        (from [] (missing_method_desc names.now file.now)
+        (method_of (text_in file.now.pool method.now.desc))) result }
 {
-    match method_desc(alloc, file.pool.as_slice(), method.desc)? {
-        Some(desc) => check_method_desc(alloc, names, file, &desc),
-        None => Ok(()),
+    match told_text(known.methods.as_slice(), method.desc) {
+        Some(true) => Ok(()),
+        _ => check_method_text(alloc, names, file, method.desc),
     }
 }
 
@@ -329,7 +362,7 @@ fn check_method(
     requires code { code.now ≡ code_of file.now.pool method.now }
     ensures { IsAnswer (missing_method names.now file.now method.now) result }
 {
-    check_declared_desc(alloc, names, file, method)?;
+    check_declared_desc(alloc, names, file, known, method)?;
     check_body(alloc, names, file, known, method, code)
 }
 
@@ -338,21 +371,23 @@ fn check_methods(
     alloc: Global,
     names: &Names,
     file: &ClassFile,
+    known: &Known,
     codes: &[Option<Code>],
 ) -> Result<(), LinkErr>
-    requires { codes.now ≡ codes_of file.now }
+    requires known { AreKnown names.now file.now.pool known.now }
+    requires codes { codes.now ≡ codes_of file.now }
     ensures { IsAnswer (flat_map (missing_method names.now file.now) file.now.methods) result }
 {
-    let known = known_texts(alloc, names, file.pool.as_slice())?;
     let methods = file.methods.as_slice();
     for i in 0..methods.len() {
-        check_method(alloc, names, file, &known, &methods[i], &codes[i])?;
+        check_method(alloc, names, file, known, &methods[i], &codes[i])?;
     }
     Ok(())
 }
 
 fn check_super(alloc: Global, names: &Names, file: &ClassFile) -> Result<(), LinkErr>
-    ensures { IsAnswer (flat_map (missing_text names.now file.now) (option_to_list (super_text file.now))) result }
+    ensures { IsAnswer
+        (flat_map (missing_text names.now file.now) (option_to_list (super_text file.now))) result }
 {
     match super_text(file) {
         Some(text) => check_text(alloc, names, file, text),
@@ -365,16 +400,13 @@ fn check_interface(
     alloc: Global,
     names: &Names,
     file: &ClassFile,
+    known: &Known,
     interface: u16,
 ) -> Result<(), LinkErr>
+    requires { AreKnown names.now file.now.pool known.now }
     ensures { IsAnswer (missing_interface names.now file.now interface) result }
 {
-    check_text(
-        alloc,
-        names,
-        file,
-        class_text(file.pool.as_slice(), interface),
-    )
+    check_item(alloc, names, file, known, interface)
 }
 
 #[tactic(auto, using(crate::proofs::Firsts::items_break))]
@@ -382,23 +414,26 @@ fn check_interfaces(
     alloc: Global,
     names: &Names,
     file: &ClassFile,
+    known: &Known,
     interfaces: &[u16],
 ) -> Result<(), LinkErr>
+    requires { AreKnown names.now file.now.pool known.now }
     ensures { IsAnswer (flat_map (missing_interface names.now file.now) interfaces.now) result }
 {
     for interface in interfaces {
-        check_interface(alloc, names, file, *interface)?;
+        check_interface(alloc, names, file, known, *interface)?;
     }
     Ok(())
 }
 
 /// The superclass and the interfaces.
 #[tactic(auto, using(crate::proofs::Firsts::answer_back))]
-fn check_above(alloc: Global, names: &Names, file: &ClassFile) -> Result<(), LinkErr>
+fn check_above(alloc: Global, names: &Names, file: &ClassFile, known: &Known) -> Result<(), LinkErr>
+    requires { AreKnown names.now file.now.pool known.now }
     ensures { IsAnswer (missing_above names.now file.now) result }
 {
     check_super(alloc, names, file)?;
-    check_interfaces(alloc, names, file, file.interfaces.as_slice())
+    check_interfaces(alloc, names, file, known, file.interfaces.as_slice())
 }
 
 /// The fields and the methods.
@@ -407,13 +442,15 @@ fn check_members(
     alloc: Global,
     names: &Names,
     file: &ClassFile,
+    known: &Known,
     codes: &[Option<Code>],
 ) -> Result<(), LinkErr>
-    requires { codes.now ≡ codes_of file.now }
+    requires known { AreKnown names.now file.now.pool known.now }
+    requires codes { codes.now ≡ codes_of file.now }
     ensures { IsAnswer (missing_members names.now file.now) result }
 {
-    check_fields(alloc, names, file, file.fields.as_slice())?;
-    check_methods(alloc, names, file, codes)
+    check_fields(alloc, names, file, known, file.fields.as_slice())?;
+    check_methods(alloc, names, file, known, codes)
 }
 
 #[tactic(auto, using(crate::proofs::Firsts::answer_back), unfolding(crate::specs::Walks::Missing::missing_file))]
@@ -421,16 +458,18 @@ fn check_parts(
     alloc: Global,
     names: &Names,
     file: &ClassFile,
+    known: &Known,
     codes: &[Option<Code>],
 ) -> Result<(), LinkErr>
-    requires { codes.now ≡ codes_of file.now }
+    requires known { AreKnown names.now file.now.pool known.now }
+    requires codes { codes.now ≡ codes_of file.now }
     ensures { IsAnswer (missing_file names.now file.now) result }
 {
-    check_above(alloc, names, file)?;
-    check_members(alloc, names, file, codes)
+    check_above(alloc, names, file, known)?;
+    check_members(alloc, names, file, known, codes)
 }
 
-/// Each class that the file names is there.
+/// Each class that the file names is there. Of each text of its pool this is asked once.
 fn check_file(
     alloc: Global,
     names: &Names,
@@ -440,7 +479,8 @@ fn check_file(
     requires { codes.now ≡ codes_of file.now }
     ensures { IsAnswer (no_class names.now file.now) result }
 {
-    check_parts(alloc, names, file, codes)
+    let known = known_texts(alloc, names, file.pool.as_slice())?;
+    check_parts(alloc, names, file, &known, codes)
 }
 
 /// Each class that the files name is there.

@@ -5,3 +5,4 @@ pub mod ItemLaws
 pub mod SignLaws
 pub mod TextLaws
 pub mod NearLaws
+pub mod AddedLaws

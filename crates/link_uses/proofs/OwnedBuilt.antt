@@ -40,7 +40,7 @@ or_true true = refl
 or_true false = refl
 
 -- one text more is known
-known_added : (names : List (List ℕ)) (x : List ℕ) → is_known (add_name names x) x ≡ true
+pub known_added : (names : List (List ℕ)) (x : List ℕ) → is_known (add_name names x) x ≡ true
 known_added names x = by (is_known names x) refl
   where
     by : (b : Bool) → is_known names x ≡ b → is_known (if b then names else names ++ x ∷ []) x ≡ true
@@ -48,7 +48,7 @@ known_added names x = by (is_known names x) refl
     by false e = list_any-append (is_name x) names (x ∷ []) ∙ ap (λ b. is_known names x || (b || false)) (nat_list_eq_equiv.refl x) ∙ or_true (is_known names x)
 
 -- and others stay so
-known_kept : (names : List (List ℕ)) (x t : List ℕ) → is_known names t ≡ true → is_known (add_name names x) t ≡ true
+pub known_kept : (names : List (List ℕ)) (x t : List ℕ) → is_known names t ≡ true → is_known (add_name names x) t ≡ true
 known_kept names x t known = by (is_known names x)
   where
     by : (b : Bool) → is_known (if b then names else names ++ x ∷ []) t ≡ true

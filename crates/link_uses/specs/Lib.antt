@@ -7,3 +7,4 @@ pub mod TextNumbers
 pub mod Items
 pub mod Told
 pub mod Near
+pub mod Kept

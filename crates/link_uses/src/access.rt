@@ -22,12 +22,13 @@ ghost use Rattle.link_uses.specs.Uses.{no_access_class, no_access_item, is_hidde
 use crate::flags::{field_flags, method_flags};
 use crate::items::{field_at, file_items, method_at};
 use crate::lookup::{Found, Resolver};
-use crate::packages::{Near, Packages, is_near, near_to, package_name};
+use crate::packages::{Near, Packages, is_near, near_to};
 use class_format::{ClassFile, FINAL, MethodItem, PRIVATE, PROTECTED, PUBLIC, has_flag};
 use class_names::{Called, class_text, desc, is_array, member, text};
 use code_table::opcode::{PUTFIELD, PUTSTATIC};
 use code_table::{Code, Op, Placed};
 use jvm_base::{Desc, Elem, List, NoMemory, TableItem};
+use link_members::package;
 use link_rules::{
     LinkErr, LinkWhy, Program, ops, refuse_class_if, refuse_member_if, table, told_class,
     told_owner,
@@ -39,7 +40,7 @@ fn is_hidden_class(program: &Program, own: &[u16], name: &[u16]) -> bool
     ensures { result ≡ (not (is_public (flags_of program.now name.now))
         && not (is_name own.now (package_of name.now))) }
 {
-    !has_flag(program.flags_of(name), PUBLIC) && own != package_name(name)
+    !has_flag(program.flags_of(name), PUBLIC) && own != package(name)
 }
 
 #[tactic(auto, unfolding(crate::specs::Uses::no_access_class))]
@@ -66,7 +67,8 @@ fn check_desc(
     desc: &Desc,
 ) -> Result<(), LinkErr>
     requires own { own.now ≡ package_of (this_name file.now) }
-    ensures { IsAnswer (flat_map (no_access_class program.now file.now) (desc_names desc.now)) result }
+    ensures { IsAnswer (flat_map (no_access_class program.now file.now) (desc_names desc.now))
+        result }
 {
     match &desc.elem {
         Elem::Object(name) => check_class(alloc, program, file, own, name.as_slice()),
@@ -83,7 +85,9 @@ fn check_array(
     text: &[u16],
 ) -> Result<(), LinkErr>
     requires own { own.now ≡ package_of (this_name file.now) }
-    ensures { IsAnswer (flat_map (no_access_class program.now file.now) (from [] desc_names (desc_of text.now))) result }
+    ensures { IsAnswer
+        (flat_map (no_access_class program.now file.now) (from [] desc_names (desc_of text.now)))
+        result }
 {
     match desc(alloc, text)? {
         Some(desc) => check_desc(alloc, program, file, own, &desc),
@@ -114,7 +118,8 @@ fn check_text(
 #[tactic(auto, unfolding(crate::specs::Uses::no_access_class))]
 fn is_allowed_desc(program: &Program, file: &ClassFile, own: &[u16], desc: &Desc) -> bool
     requires own { own.now ≡ package_of (this_name file.now) }
-    ensures { result ≡ true → flat_map (no_access_class program.now file.now) (desc_names desc.now) ≡ [] }
+    ensures { result ≡ true → flat_map (no_access_class program.now file.now) (desc_names desc.now)
+        ≡ [] }
 {
     match &desc.elem {
         Elem::Object(name) => !is_hidden_class(program, own, name.as_slice()),
@@ -130,7 +135,9 @@ fn is_allowed_array(
     text: &[u16],
 ) -> Result<bool, NoMemory>
     requires own { own.now ≡ package_of (this_name file.now) }
-    ensures { IfOk result (λ b. b ≡ true → flat_map (no_access_class program.now file.now) (from [] desc_names (desc_of text.now)) ≡ []) }
+    ensures { IfOk result
+        (λ b. b ≡ true → flat_map (no_access_class program.now file.now)
+        (from [] desc_names (desc_of text.now)) ≡ []) }
 {
     match desc(alloc, text)? {
         Some(desc) => Ok(is_allowed_desc(program, file, own, &desc)),
@@ -165,7 +172,8 @@ fn allowed_texts(
     own: &[u16],
 ) -> Result<List<bool>, NoMemory>
     requires own { own.now ≡ package_of (this_name file.now) }
-    ensures { IfOk result (λ allowed. AreRight (no_access_item program.now file.now) file.now.pool allowed) }
+    ensures { IfOk result
+        (λ allowed. AreRight (no_access_item program.now file.now) file.now.pool allowed) }
 {
     let pool = file.pool.as_slice();
     let mut allowed = List::new(alloc);
@@ -207,7 +215,8 @@ fn check_owner(
 ) -> Result<(), LinkErr>
     requires allowed { AreRight (no_access_item program.now file.now) file.now.pool allowed.now }
     requires own { own.now ≡ package_of (this_name file.now) }
-    ensures { IsAnswer (no_access_item program.now file.now (member_in file.now.pool item).class) result }
+    ensures { IsAnswer (no_access_item program.now file.now (member_in file.now.pool item).class)
+        result }
 {
     let pool = file.pool.as_slice();
     match told_owner(allowed, pool, item) {

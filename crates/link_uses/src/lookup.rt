@@ -68,7 +68,8 @@ fn first_in_interfaces(
     interfaces: &[List<u32>],
     classes: &[u32],
 ) -> Option<Found>
-    ensures { result ≡ first_some (λ k. first_some (found_at places.now.entries sign) (row_of interfaces.now k)) classes.now }
+    ensures { result ≡ first_some
+        (λ k. first_some (found_at places.now.entries sign) (row_of interfaces.now k)) classes.now }
 {
     for number in classes {
         if let Some(found) = first(places, sign, row(interfaces, *number)) {
@@ -86,7 +87,9 @@ fn first_in_class(
     interfaces: &[List<u32>],
     lineage: &[u32],
 ) -> Option<Found>
-    ensures { result ≡ or_else (first_some (found_at places.now.entries sign) lineage.now) (first_some (λ k. first_some (found_at places.now.entries sign) (row_of interfaces.now k)) lineage.now) }
+    ensures { result ≡ or_else (first_some (found_at places.now.entries sign) lineage.now)
+        (first_some (λ k. first_some (found_at places.now.entries sign) (row_of interfaces.now k))
+        lineage.now) }
 {
     match first(places, sign, lineage) {
         Some(found) => Some(found),
@@ -97,7 +100,8 @@ fn first_in_class(
 /// The first along a walk over interfaces, then in Object.
 #[tactic(auto, using(crate::proofs::WalkedLaws::or_first, crate::proofs::WalkedLaws::or_second))]
 fn first_in_interface(places: &Places, sign: Sign, walk: &[u32]) -> Option<Found>
-    ensures { result ≡ or_else (first_some (found_at places.now.entries sign) walk.now) (found_at places.now.entries sign 0) }
+    ensures { result ≡ or_else (first_some (found_at places.now.entries sign) walk.now)
+        (found_at places.now.entries sign 0) }
 {
     match first(places, sign, walk) {
         Some(found) => Some(found),
@@ -188,7 +192,8 @@ fn signed_method(
     sign: Option<Sign>,
     number: u32,
 ) -> Option<Found>
-    ensures { result ≡ signed_method program.now places.now.entries supers.now interfaces.now sign number }
+    ensures { result ≡ signed_method program.now places.now.entries supers.now interfaces.now sign
+        number }
 {
     if has_flag(program.flags_at(number as usize), INTERFACE) {
         signed_interface_method(places, interfaces, sign, number)
@@ -224,7 +229,8 @@ fn field_of_pair(
     requires some { 0 < length program.now }
     requires few { length program.now < 2 ^ 25 }
     requires numbers { AreNumbers program.now pool.now numbers.now }
-    ensures { result ≡ found_field program.now (member_of_pair pool.now class (slice_get pool.now pair)) }
+    ensures { result ≡ found_field program.now
+        (member_of_pair pool.now class (slice_get pool.now pair)) }
 {
     let sought = pair_sought(program, &owned.names, numbers, pool, class, pair);
     signed_field(&owned.fields, fields, sought.sign, sought.holder)
@@ -269,7 +275,8 @@ fn method_of_pair(
     requires some { 0 < length program.now }
     requires few { length program.now < 2 ^ 25 }
     requires numbers { AreNumbers program.now pool.now numbers.now }
-    ensures { result ≡ found_method program.now (member_of_pair pool.now class (slice_get pool.now pair)) }
+    ensures { result ≡ found_method program.now
+        (member_of_pair pool.now class (slice_get pool.now pair)) }
 {
     let sought = pair_sought(program, &owned.names, numbers, pool, class, pair);
     let (sign, number) = (sought.sign, sought.holder);
@@ -352,7 +359,8 @@ impl<'p, 'a> Resolver<'p, 'a> {
         pair: u16,
     ) -> Option<Found>
         requires { AreNumbers self.now pool.now numbers.now }
-        ensures { result ≡ found_field self.now (member_of_pair pool.now class (slice_get pool.now pair)) }
+        ensures { result
+            ≡ found_field self.now (member_of_pair pool.now class (slice_get pool.now pair)) }
     {
         let fields = self.fields.as_slice();
         field_of_pair(
@@ -383,7 +391,8 @@ impl<'p, 'a> Resolver<'p, 'a> {
         pair: u16,
     ) -> Option<Found>
         requires { AreNumbers self.now pool.now numbers.now }
-        ensures { result ≡ found_method self.now (member_of_pair pool.now class (slice_get pool.now pair)) }
+        ensures { result
+            ≡ found_method self.now (member_of_pair pool.now class (slice_get pool.now pair)) }
     {
         let (supers, interfaces) = (self.supers.as_slice(), self.interfaces.as_slice());
         let (program, owned) = (self.program, &self.owned);

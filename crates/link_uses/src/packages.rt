@@ -2,7 +2,7 @@
 
 ghost use Rattle.std.specs.Prelude.{◌≡◌, ◌<◌, ◌≤◌, ◌^◌, length, IfOk};
 ghost use Rattle.class_names.specs.Classes.{this_name};
-ghost use Rattle.link_rules.specs.Packages.{last_slash, package_of, is_one_package};
+ghost use Rattle.link_rules.specs.Packages.{package_of, is_one_package};
 ghost use Rattle.link_uses.specs.Near.{ArePackages, AreNumbered, IsNear};
 ghost use Rattle.link_uses.specs.Owned.{is_number};
 ghost use Rattle.link_uses.specs.Uses.{name_at};
@@ -10,11 +10,9 @@ ghost use Rattle.link_uses.specs.Uses.{name_at};
 use class_format::ClassFile;
 use class_names::{Names, this_name};
 use jvm_base::{List, NoMemory};
-use link_members::is_one_package;
+use link_members::{is_one_package, package};
 use link_rules::Program;
 use std::alloc::Global;
-
-const SLASH: u16 = b'/' as u16;
 
 /// The packages of all classes, and the number of each class's package among them.
 #[derive(Drop)]
@@ -29,28 +27,6 @@ pub(crate) struct Near<'a> {
     pub(crate) own: &'a [u16],
     pub(crate) number: Option<usize>,
     pub(crate) packages: &'a [Option<usize>],
-}
-
-/// The place of the last `/`, 0 where there is none.
-fn last_slash(name: &[u16]) -> usize
-    ensures value { result ≡ last_slash (length name.now) name.now }
-    ensures within { result ≤ length name.now }
-{
-    let mut end = name.len();
-    while end > 0 {
-        end -= 1;
-        if name[end] == SLASH {
-            return end;
-        }
-    }
-    0
-}
-
-/// The package of the class of a name.
-pub(crate) fn package_name(name: &[u16]) -> &[u16]
-    ensures { result.now ≡ package_of name.now }
-{
-    &name[..last_slash(name)]
 }
 
 fn name_at<'a>(program: &'a Program, number: u32) -> &'a [u16]
@@ -77,7 +53,7 @@ fn package_names<'a>(alloc: Global, program: &'a Program<'_>) -> Result<Names<'a
 {
     let mut names = Names::new(alloc);
     for number in 0..count(program) {
-        names.add(package_name(name_at(program, number)))?;
+        names.add(package(name_at(program, number)))?;
     }
     Ok(names)
 }
@@ -93,7 +69,7 @@ fn package_numbers(
 {
     let mut numbers = List::new(alloc);
     for number in 0..count(program) {
-        numbers.push(names.number(package_name(name_at(program, number))))?;
+        numbers.push(names.number(package(name_at(program, number))))?;
     }
     Ok(numbers)
 }
@@ -120,7 +96,7 @@ pub(crate) fn near_to<'a>(
     ensures { IsNear program.now file.now result }
 {
     let _program = program;
-    let own = package_name(this_name(file));
+    let own = package(this_name(file));
     Near {
         own,
         number: packages.names.number(own),

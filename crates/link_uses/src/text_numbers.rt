@@ -57,7 +57,8 @@ pub(crate) fn signed(name: Option<usize>, desc: Option<usize>) -> Option<Sign>
     }
 }
 
-fn name_numbers(
+/// The number of each text of a pool, by index.
+pub(crate) fn name_numbers(
     alloc: Global,
     names: &Names,
     pool: &[PoolItem],
@@ -86,7 +87,12 @@ fn holders(alloc: Global, program: &Program, pool: &[PoolItem]) -> Result<List<u
 }
 
 /// The number of the text at an index.
-fn number_at(names: &Names, told: &[Option<usize>], pool: &[PoolItem], index: u16) -> Option<usize>
+pub(crate) fn number_at(
+    names: &Names,
+    told: &[Option<usize>],
+    pool: &[PoolItem],
+    index: u16,
+) -> Option<usize>
     requires { AreOf (name_number names.now) pool.now told.now }
     ensures { result ≡ name_number names.now (text_in pool.now index) }
 {

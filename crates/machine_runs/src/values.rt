@@ -9,7 +9,8 @@ ghost use Rattle.machine_runs.specs.Programs.Values.{numbers, texts};
 /// Numbers wrap, are cut and are shifted; switches lead to their cases.
 #[tactic(auto, unfolding(crate::specs::Driving::outcome))]
 pub fn numbers_run()
-    ensures { Prints numbers (codes "-2147483648 0 -4 15 1099511627776 0 -56 A -25536 6 1 2147483647") }
+    ensures { Prints numbers
+        (codes "-2147483648 0 -4 15 1099511627776 0 -56 A -25536 6 1 2147483647") }
 {}
 
 /// A buffer gathers texts; Strings are compared by their text.

@@ -83,41 +83,69 @@ fn shows_a_front(rt: HostRuntime) -> Result<(), Fail> {
 }
 
 #[test]
+fn refuses_steps(rt: HostRuntime) -> Result<(), Fail> {
+    let alloc = rt.alloc();
+    let rows: [(&[&[u8]], &[u8], &[u8], &[u8]); 7] = [
+        (&[b"1 0 0.0.0\n"], TAIL.as_slice(), b"", b"1"),
+        (&[STEP, b"0 1 0.0.0\n"], TAIL.as_slice(), b"", b"2"),
+        (&[STEP, STEP, b"0 0 255.0.0\n"], TAIL.as_slice(), b"", b"3"),
+        (
+            &[STEP, STEP, STEP, STEP, b"0 0 0.35.0\n"],
+            ARRAY.as_slice(),
+            b"",
+            b"5",
+        ),
+        (&[STEP; 10], ARRAY.as_slice(), b"", b"5"),
+        (
+            &[STEP, STEP, STEP, STEP, MAKES, MAKES, STEP, STEP, STEP],
+            ARRAY.as_slice(),
+            b"",
+            b"6",
+        ),
+        (&[STEP; 11], TAIL.as_slice(), b"5\n", b"11"),
+    ];
+    for (steps, tail, out, step) in rows {
+        let report = text_of(alloc, b"cjvm: step ", &[step], b" not enabled\n")?;
+        let left = replay(alloc, order_of(alloc, steps)?, tail)?;
+        assert_eq!(rt; left.outcome.status, 12);
+        assert_eq!(rt; left.outcome.stop, None);
+        assert_eq!(rt; left.out.as_slice(), out);
+        assert_eq!(rt; left.err.as_slice(), report.as_slice());
+    }
+    Ok(())
+}
+
+#[test]
 fn refuses_orders(rt: HostRuntime) -> Result<(), Fail> {
     let alloc = rt.alloc();
-    let twice = [STEP, STEP, STEP, STEP, MAKES, MAKES, STEP, STEP, STEP];
-    let rows: [(Vec<u8>, &[u8], u8, &[u8], &[u8]); 4] = [
+    let rows: [(&[u8], &[&[u8]], &[u8], u8, &[u8], &[u8]); 3] = [
         (
-            order_of(alloc, &twice)?,
-            ARRAY.as_slice(),
-            12,
-            b"",
-            b"cjvm: step 6 not enabled\n",
-        ),
-        (
-            order_of(alloc, &[STEP; 9])?,
-            TAIL.as_slice(),
+            b"cjvm-order 1\n",
+            &[STEP; 9],
+            b"end\n",
             13,
             b"5\n",
             b"cjvm: order ended early\n",
         ),
         (
-            text_of(alloc, b"order\n", &[STEP; 10], b"end\n")?,
-            TAIL.as_slice(),
+            b"order\n",
+            &[STEP; 10],
+            b"end\n",
             12,
             b"",
             b"cjvm: bad order line 1\n",
         ),
         (
-            text_of(alloc, b"cjvm-order 1\n", &[STEP; 10], b"")?,
-            TAIL.as_slice(),
+            b"cjvm-order 1\n",
+            &[STEP; 10],
+            b"",
             12,
             b"",
             b"cjvm: bad order line 12\n",
         ),
     ];
-    for (text, tail, status, out, report) in rows {
-        let left = replay(alloc, text, tail)?;
+    for (head, steps, end, status, out, report) in rows {
+        let left = replay(alloc, text_of(alloc, head, steps, end)?, TAIL.as_slice())?;
         assert_eq!(rt; left.outcome.status, status);
         assert_eq!(rt; left.outcome.stop, None);
         assert_eq!(rt; left.out.as_slice(), out);

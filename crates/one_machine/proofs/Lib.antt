@@ -4,3 +4,4 @@ pub mod Wishes
 pub mod Ables
 pub mod Counting
 pub mod Founds
+pub mod InPlace

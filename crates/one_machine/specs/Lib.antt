@@ -2,3 +2,4 @@ pub mod Ready
 pub mod Going
 pub mod Doing
 pub mod Found
+pub mod InPlace

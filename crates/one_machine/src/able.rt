@@ -13,21 +13,28 @@ use std::alloc::Global;
 use step_attempt::{Going, Site, attempt};
 
 /// The name of the choice of a step that makes nothing.
-const NO_NAME: Name = Name {
+pub(crate) const NO_NAME: Name = Name {
     node: 0,
     class: 0,
     index: 0,
 };
 
+/// The choice of a thread that picks nobody and makes nothing.
+pub(crate) fn any_choice(thread: u32) -> Choice
+    ensures { result ≡ any_choice thread }
+{
+    Choice {
+        thread,
+        pick: 0,
+        name: NO_NAME,
+    }
+}
+
 /// Some step of a thread, which picks nobody and makes nothing.
 pub(crate) fn any_step(thread: u32) -> Wish
     ensures { result ≡ Exactly (any_choice thread) }
 {
-    Wish::Exactly(Choice {
-        thread,
-        pick: 0,
-        name: NO_NAME,
-    })
+    Wish::Exactly(any_choice(thread))
 }
 
 /// Whether there is a step that can be taken.

@@ -2,6 +2,7 @@
 #![tactic(auto)]
 
 mod able;
+mod in_place;
 mod machine;
 mod perform;
 mod taking;

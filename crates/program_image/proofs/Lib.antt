@@ -1,6 +1,7 @@
 mod Examples
 pub mod ImageLaws
 pub mod MemberLaws
+pub mod NameLaws
 pub mod PackageLaws
 pub mod Rows
 pub mod Signatures

@@ -193,10 +193,18 @@ pub signs_none : (methods : List MethodInfo) (names : List (List ℕ)) (descs : 
 signs_none methods names descs signs e = record { all = ap length e; name = λ a m h q. absurd (omega arith); desc = λ a m h q. absurd (omega arith) }
 
 -- the step of the loop, for lists that grew so
-pub signs_step : (methods : List MethodInfo) (names names2 : List (List ℕ)) (descs descs2 : List MethodDesc) (signs signs2 : List Sign) (i : ℕ) (m : MethodInfo) (n d : ℕ) → slice_get methods i ≡ Some m → names2 ≡ with_item same_text names m.name → descs2 ≡ with_item method_desc.eq-value.it descs m.desc → signs2 ≡ signs ++ (n, d) ∷ [] → position (same_text m.name) names2 ≡ Some n → position (method_desc.eq-value.it m.desc) descs2 ≡ Some d → Signed methods names descs signs i → Signed methods names2 descs2 signs2 (i + 1)
-signs_step methods names names2 descs descs2 signs signs2 i m n d at e1 e2 e3 en ed s =
-    let more = signs_more methods names descs signs i m n d at (subst (λ z. position (same_text m.name) z ≡ Some n) e1 en) (subst (λ z. position (method_desc.eq-value.it m.desc) z ≡ Some d) e2 ed) s in
+pub signs_step : (methods : List MethodInfo) (names names2 : List (List ℕ)) (descs descs2 : List MethodDesc) (signs signs2 : List Sign) (i : ℕ) (m : MethodInfo) (name : List ℕ) (desc : MethodDesc) (n d : ℕ)
+    → slice_get methods i ≡ Some m → name ≡ m.name → desc ≡ m.desc
+    → names2 ≡ with_item same_text names name → descs2 ≡ with_item method_desc.eq-value.it descs desc → signs2 ≡ signs ++ (n, d) ∷ []
+    → position (same_text name) names2 ≡ Some n → position (method_desc.eq-value.it desc) descs2 ≡ Some d
+    → Signed methods names descs signs i → Signed methods names2 descs2 signs2 (i + 1)
+signs_step methods names names2 descs descs2 signs signs2 i m name desc n d at is_name is_desc e1 e2 e3 en ed s =
+    let with_name : names2 ≡ with_item same_text names m.name = e1 ∙ ap (with_item same_text names) is_name in
+    let with_desc : descs2 ≡ with_item method_desc.eq-value.it descs m.desc = e2 ∙ ap (with_item method_desc.eq-value.it descs) is_desc in
+    let name_at : position (same_text m.name) names2 ≡ Some n = ap (λ z. position (same_text z) names2) (sym is_name) ∙ en in
+    let desc_at : position (method_desc.eq-value.it m.desc) descs2 ≡ Some d = ap (λ z. position (method_desc.eq-value.it z) descs2) (sym is_desc) ∙ ed in
+    let more = signs_more methods names descs signs i m n d at (subst (λ z. position (same_text m.name) z ≡ Some n) with_name name_at) (subst (λ z. position (method_desc.eq-value.it m.desc) z ≡ Some d) with_desc desc_at) s in
     let grown = with_item method_desc.eq-value.it descs m.desc in
-    subst (λ z. Signed methods z descs2 signs2 (i + 1)) (sym e1)
-    (subst (λ z. Signed methods (with_item same_text names m.name) z signs2 (i + 1)) (sym e2)
+    subst (λ z. Signed methods z descs2 signs2 (i + 1)) (sym with_name)
+    (subst (λ z. Signed methods (with_item same_text names m.name) z signs2 (i + 1)) (sym with_desc)
     (subst (λ z. Signed methods (with_item same_text names m.name) grown z (i + 1)) (sym e3) more))

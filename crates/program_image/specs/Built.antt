@@ -2,5 +2,6 @@
 pub mod Ancestry
 pub mod Image
 pub mod Members
+pub mod Names
 pub mod Packages
 pub mod Signs

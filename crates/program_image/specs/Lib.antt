@@ -2,6 +2,7 @@ pub mod Buffers
 pub mod Built
 pub mod Condition
 pub mod Handlers
+pub mod Named
 pub mod Places
 pub mod Program
 pub mod Selection

@@ -8,12 +8,16 @@ ghost use Rattle.program_image.specs.Subclass.{IsSub, is_sub_of};
 ghost use Rattle.program_image.specs.Selection.{select_of};
 ghost use Rattle.program_image.specs.Handlers.{handler_of};
 ghost use Rattle.program_image.specs.Buffers.{is_buffer};
+ghost use Rattle.program_image.specs.Built.Signs.{AreSigns};
+ghost use Rattle.program_image.specs.Named.{first_named};
 
 use crate::ancestry::Ancestry;
 use crate::handlers::{Targets, handler, target};
 use crate::info::{Body, ClassInfo, MethodInfo, Target};
 use crate::members::Members;
+use crate::names::{Names, class_named, names};
 use crate::select::{Selected, select};
+use crate::signs::signs;
 use crate::subclass::is_below;
 use jvm_base::{List, NoMemory, Units};
 use std::alloc::Global;
@@ -35,6 +39,7 @@ pub struct Image {
     main: u32,
     ancestry: Ancestry,
     members: Members,
+    names: Names,
 }
 
 impl Model for Image {
@@ -75,9 +80,29 @@ impl Image {
         requires image { IsImage classes methods targets literals main }
         ensures { IfOk result (λ image. image ≡ program classes methods targets literals main) }
     {
+        let signs = signs(alloc, methods.as_slice())?;
+        Image::with_signs(alloc, classes, methods, signs, targets, literals, main)
+    }
+
+    /// The same program, where the methods' names and descriptors are told apart by these numbers, so
+    /// that none of their texts is read.
+    pub fn with_signs(
+        alloc: Global,
+        classes: List<ClassInfo>,
+        methods: List<MethodInfo>,
+        signs: List<(usize, usize)>,
+        targets: List<(u32, u32, Target)>,
+        literals: List<Units>,
+        main: u32,
+    ) -> Result<Image, NoMemory>
+        requires image { IsImage classes methods targets literals main }
+        requires signs { AreSigns methods signs }
+        ensures { IfOk result (λ image. image ≡ program classes methods targets literals main) }
+    {
         let ancestry = Ancestry::new(alloc, classes.as_slice())?;
-        let members = Members::new(alloc, classes.as_slice(), methods.as_slice())?;
+        let members = Members::new(alloc, classes.as_slice(), methods.as_slice(), signs)?;
         let targets = place(alloc, targets.as_slice())?;
+        let names = names(alloc, classes.as_slice())?;
         Ok(Image {
             classes,
             methods,
@@ -86,6 +111,7 @@ impl Image {
             main,
             ancestry,
             members,
+            names,
         })
     }
 
@@ -123,6 +149,14 @@ impl Image {
         ensures { slice_get self.now.classes class ≡ Some result.now }
     {
         &self.classes.as_slice()[class as usize]
+    }
+
+    /// The first class of a name; `None` exactly where there is none. It takes time in the length of
+    /// the name, however many classes there are.
+    pub fn named(&self, name: &Units) -> Option<u32>
+        ensures { result ≡ first_named self.now.classes name.now }
+    {
+        class_named(&self.names, name)
     }
 
     /// A method by its number.

@@ -2,6 +2,7 @@
 
 use code_table::Code;
 use jvm_base::{Desc, Elem, List, MethodDesc, Units, Value};
+use shared_value::Shared;
 
 /// A field that a class declares. `place` counts from 0, for an instance field behind those of the
 /// superclass, for a static one among the statics of its class. `constant` is what a static field
@@ -9,8 +10,8 @@ use jvm_base::{Desc, Elem, List, MethodDesc, Units, Value};
 #[derive(Drop)]
 pub struct FieldInfo {
     pub owner: u32,
-    pub name: Units,
-    pub desc: Desc,
+    pub name: Shared<Units>,
+    pub desc: Shared<Desc>,
     pub flags: u16,
     pub place: u32,
     pub constant: Option<Value>,
@@ -51,8 +52,8 @@ pub enum Body {
 #[derive(Drop)]
 pub struct MethodInfo {
     pub owner: u32,
-    pub name: Units,
-    pub desc: MethodDesc,
+    pub name: Shared<Units>,
+    pub desc: Shared<MethodDesc>,
     pub flags: u16,
     pub body: Body,
 }

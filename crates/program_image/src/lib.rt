@@ -7,6 +7,7 @@ mod handlers;
 mod image;
 mod info;
 mod members;
+mod names;
 mod packages;
 mod select;
 mod signs;

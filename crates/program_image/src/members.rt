@@ -10,7 +10,6 @@ ghost use Rattle.program_image.specs.Built.Signs.{AreSigns};
 
 use crate::info::{ClassInfo, MethodInfo};
 use crate::packages::packages;
-use crate::signs::signs;
 use class_format::{CLINIT, STATIC, has_flag};
 use jvm_base::{List, NoMemory};
 use std::alloc::Global;
@@ -32,7 +31,7 @@ pub(crate) struct Members {
 fn is_instance(method: &MethodInfo) -> bool
     ensures { result ≡ is_instance method.now }
 {
-    !(has_flag(method.flags, STATIC) || method.name.as_slice() == CLINIT.as_slice())
+    !(has_flag(method.flags, STATIC) || method.name.get().as_slice() == CLINIT.as_slice())
 }
 
 /// Adds a method of a class, where the class has none of its sign yet.
@@ -42,7 +41,10 @@ fn add_method(
     sign: (usize, usize),
     method: u32,
 ) -> Result<(), NoMemory>
-    ensures { OnOk result ((key : Member) → member_at declared.new.entries key ≡ or_else (member_at declared.old.entries key) (if is_at (member_cmp (class, sign)) key then Some method else None)) }
+    ensures { OnOk result
+        ((key : Member) → member_at declared.new.entries key
+        ≡ or_else (member_at declared.old.entries key)
+        (if is_at (member_cmp (class, sign)) key then Some method else None)) }
 {
     if !declared.contains_key(&(class, sign)) {
         declared.insert((class, sign), method)?;
@@ -60,7 +62,10 @@ fn add_methods(
 ) -> Result<(), NoMemory>
     requires within { All (λ m. m < length methods.now) info.now.methods }
     requires signed { length signs.now ≡ length methods.now }
-    ensures { OnOk result ((key : Member) → member_at declared.new.entries key ≡ or_else (member_at declared.old.entries key) (members_in methods.now signs.now class key info.now.methods)) }
+    ensures { OnOk result
+        ((key : Member) → member_at declared.new.entries key
+        ≡ or_else (member_at declared.old.entries key)
+        (members_in methods.now signs.now class key info.now.methods)) }
 {
     for m in info.methods.as_slice() {
         if is_instance(&methods[*m as usize]) {
@@ -90,18 +95,19 @@ fn declared(
 }
 
 impl Members {
-    /// What the classes declare.
+    /// What the classes declare, where methods have these signs.
     pub fn new(
         alloc: Global,
         classes: &[ClassInfo],
         methods: &[MethodInfo],
+        signs: List<(usize, usize)>,
     ) -> Result<Members, NoMemory>
         requires few { length classes.now ≤ 16777216 }
         requires within { AreMethodsWithin classes.now (length methods.now) }
         requires owned { AreOwnersWithin methods.now (length classes.now) }
+        requires signs { AreSigns methods.now signs }
         ensures { IfOk result (λ members. IsMembers classes.now methods.now members) }
     {
-        let signs = signs(alloc, methods)?;
         let declared = declared(alloc, classes, methods, signs.as_slice())?;
         let packages = packages(alloc, classes)?;
         Ok(Members {

@@ -17,8 +17,8 @@ pub(crate) fn signs(alloc: Global, methods: &[MethodInfo]) -> Result<List<(usize
     let mut descs = Numbers::new(alloc);
     let mut signs = List::new(alloc);
     for method in methods {
-        let name = names.number(&method.name)?;
-        let desc = descs.number(&method.desc)?;
+        let name = names.number(method.name.get())?;
+        let desc = descs.number(method.desc.get())?;
         signs.push((name, desc))?;
     }
     Ok(signs)

@@ -12,7 +12,8 @@ use std::alloc::Global;
 
 /// Whether a field is static, final and has a constant.
 fn is_constant(field: &FieldInfo) -> bool
-    ensures { (place : ℕ) → is_constant_at place field.now ≡ (result && (field.now.place == place)) }
+    ensures { (place : ℕ) → is_constant_at place field.now
+        ≡ (result && (field.now.place == place)) }
 {
     has_flag(field.flags, STATIC) && has_flag(field.flags, FINAL) && field.constant.is_some()
 }

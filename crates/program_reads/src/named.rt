@@ -20,7 +20,7 @@ const RUN: [u16; 3] = [114, 117, 110];
 fn is_run(image: &Image, method: u32) -> bool
     ensures { result ≡ same_text (name_of image.now method) (codes "run") }
 {
-    method < image.methods() && image.method(method).name.as_slice() == RUN.as_slice()
+    method < image.methods() && image.method(method).name.get().as_slice() == RUN.as_slice()
 }
 
 /// `run` of `java/lang/Thread`.

@@ -73,7 +73,7 @@ fn first_value(field: &FieldInfo) -> Value
 {
     match field.constant {
         Some(value) => value,
-        None => zero_of(&field.desc),
+        None => zero_of(field.desc.get()),
     }
 }
 

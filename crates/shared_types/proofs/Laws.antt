@@ -1,14 +1,16 @@
 -- Laws of lists of types in two parts.
-use Rattle.std.proofs.Common.{true, false, ◌≡◌, ◌∙◌, ap, sym, min, refl, arith, zero, suc, ℕ, ◌+◌, ◌-◌, ◌<◌, ◌≤◌, Bool, ◌&&◌, ◌==◌, if◌then◌else◌, eqb→eq, ◌||◌, List, [], ◌∷◌, ◌++◌, length, take, drop, slice_get, slice_set, Option, Some, None, inl, inr, ◌⊎◌}
+use Rattle.std.proofs.Common.{true, false, ◌≡◌, ◌∙◌, ap, sym, refl, arith, zero, suc, ℕ, ◌+◌, ◌-◌, ◌<◌, ◌≤◌, Bool, ◌&&◌, ◌==◌, eqb→eq, List, [], ◌∷◌, ◌++◌, length, take, slice_get, slice_set, Option, Some, None, inl, inr}
 use Rattle.std.proofs.Math.ListN.{replicate}
 use Rattle.std.proofs.lemmas.Bool.{cases_Bool, and_parts}
 use Rattle.std.proofs.lemmas.Float.{T_from_true}
 use Rattle.std.proofs.lemmas.List.{length-take, length-replicate}
+use Rattle.flow_types.specs.Tree.{IsTree}
 use Rattle.flow_types.specs.Types.{joined, type_fits}
-use Rattle.flow_types.specs.TypeLists.{types_fit, types_joined, stacks_joined, stacks_meet, is_operand}
+use Rattle.flow_types.proofs.TypeLaws.{type-antisym}
+use Rattle.flow_types.specs.TypeLists.{types_fit, types_joined, is_operand}
 use Rattle.flow_types.specs.declared.flow_type.FlowType.{FlowType}
 use Rattle.flow_types.specs.declared.flow_type.FlowType.TheVariants.{Unusable, Int, Long, High, Null, Class, Array, Fresh, FreshThis}
-use Rattle.shared_types.specs.Trees.{is_unusable, all_unusable, all_operands, longs, AreReplaced}
+use Rattle.shared_types.specs.Trees.{is_unusable, all_unusable, all_operands, longs, more_slots, AreReplaced}
 
 pub get_right : (xs ys : List FlowType) (i : ℕ) → length xs ≤ i → slice_get (xs ++ ys) i ≡ slice_get ys (i - length xs)
 get_right [] ys i h = let e : i - 0 ≡ i = omega arith in rw e refl
@@ -401,3 +403,38 @@ pub set_same : (xs : List FlowType) (i : ℕ) (t : FlowType) → slice_get xs i 
 set_same [] i t h = refl
 set_same (x ∷ xs) zero t h = let e : x ≡ t = cc in rw e refl
 set_same (x ∷ xs) (suc i) t h = ap (λ zs. x ∷ zs) (set_same xs i t h)
+
+-- ---- blocks
+
+fit_joined_one : (supers : List (Option ℕ)) (x y : FlowType) → IsTree supers → type_fits supers x y ≡ true → joined supers y x ≡ y
+fit_joined_one supers x y tree h =
+    elim (cases_Bool (type_fits supers y x)) [ inl q ↦ rw q (type-antisym supers tree x y h q) | inr q ↦ rw (q, h) refl ]
+
+pub fit_joined : (supers : List (Option ℕ)) (low high : List FlowType) → IsTree supers → types_fit supers low high ≡ true → types_joined supers high low ≡ high
+fit_joined supers [] [] tree h = refl
+fit_joined supers [] (y ∷ ys) tree h = absurd cc
+fit_joined supers (x ∷ xs) [] tree h = absurd cc
+fit_joined supers (x ∷ xs) (y ∷ ys) tree h =
+    let (p, q) = and_parts (type_fits supers x y) (types_fit supers xs ys) h in
+    rw (fit_joined supers xs ys tree q) (ap (λ z. z ∷ ys) (fit_joined_one supers x y tree p))
+
+pub longs_next : (i : ℕ) (t : FlowType) (xs : List FlowType) → slice_get xs i ≡ Some t → longs (take (i + 1) xs) ≡ longs (take i xs) + more_slots t
+longs_next i t xs e = rw (sym (one_more i t xs e)) (let f : more_slots t + 0 ≡ more_slots t = omega arith in longs_parts (take i xs) (t ∷ []) ∙ ap (λ z. longs (take i xs) + z) f)
+
+pub kept_next : (was now : FlowType) (i : ℕ) (t : FlowType) (xs : List FlowType) → slice_get xs i ≡ Some t → (t ≡ was → ⊥) → AreReplaced was now (take i xs) (take i xs) → AreReplaced was now (take (i + 1) xs) (take (i + 1) xs)
+kept_next was now i t xs e h k = rw (sym (one_more i t xs e)) (replaced_parts was now (take i xs) (take i xs) (t ∷ []) (t ∷ []) k (inr (h, refl), tt))
+
+pub replaced_next : (was now : FlowType) (i : ℕ) (t u : FlowType) (xs out : List FlowType) → slice_get xs i ≡ Some t → AreReplaced was now (t ∷ []) (u ∷ []) → AreReplaced was now (take i xs) out → AreReplaced was now (take (i + 1) xs) (out ++ u ∷ [])
+replaced_next was now i t u xs out e f k =
+    rw (sym (one_more i t xs e)) (replaced_parts was now (take i xs) out (t ∷ []) (u ∷ []) k f)
+
+pub joined_next : (supers : List (Option ℕ)) (i : ℕ) (t u : FlowType) (xs ys : List FlowType) → slice_get xs i ≡ Some t → slice_get ys i ≡ Some u → types_joined supers (take (i + 1) xs) (take (i + 1) ys) ≡ types_joined supers (take i xs) (take i ys) ++ joined supers t u ∷ []
+joined_next supers i t u [] ys e f = absurd cc
+joined_next supers i t u (x ∷ xs) [] e f = absurd cc
+joined_next supers zero t u (x ∷ xs) (y ∷ ys) e f = let d : x ≡ t = cc in let g : y ≡ u = cc in rw (d, g) refl
+joined_next supers (suc i) t u (x ∷ xs) (y ∷ ys) e f =
+    let d : suc i + 1 ≡ suc (i + 1) = omega arith in
+    rw d (ap (λ zs. joined supers x y ∷ zs) (joined_next supers i t u xs ys e f))
+
+pub joined_more : (supers : List (Option ℕ)) (i : ℕ) (t u : FlowType) (xs ys out : List FlowType) → slice_get xs i ≡ Some t → slice_get ys i ≡ Some u → out ≡ types_joined supers (take i xs) (take i ys) → out ++ joined supers t u ∷ [] ≡ types_joined supers (take (i + 1) xs) (take (i + 1) ys)
+joined_more supers i t u xs ys out e f g = rw g (sym (joined_next supers i t u xs ys e f))

@@ -1,24 +1,24 @@
 -- What a tree of types stands for.
-use Rattle.std.specs.Prelude.{◌≡◌, ◌⊎◌, ◌≤◌, ℕ, ◌+◌, zero, suc, Bool, true, false, ◌&&◌, ◌||◌, ◌==◌, List, [], ◌∷◌, ◌++◌, length, Option, Some, None}
-use Rattle.std.proofs.Math.ListN.{replicate, take}
-use Rattle.flow_types.specs.TypeLists.{types_fit, types_joined, is_operand}
+use Rattle.std.specs.Prelude.{◌≡◌, ◌⊎◌, ◌≤◌, ℕ, ◌+◌, Bool, true, false, ◌&&◌, ◌==◌, List, [], ◌∷◌, ◌++◌, length, Option, Some, None}
+use Rattle.std.proofs.Math.ListN.{replicate}
+use Rattle.flow_types.specs.TypeLists.{types_joined, is_operand}
 use Rattle.flow_types.specs.declared.flow_type.FlowType.{FlowType}
 use Rattle.flow_types.specs.declared.flow_type.FlowType.TheVariants as flow
 use Rattle.shared_types.specs.declared.tree.Tree.{Tree}
-use Rattle.shared_types.specs.declared.tree.Tree.TheVariants.{Unusable, One, Pair'}
+use Rattle.shared_types.specs.declared.tree.Tree.TheVariants.{Unusable, Few, Pair'}
 use Rattle.shared_types.specs.declared.tree.Joined.{Joined}
 use Rattle.shared_types.specs.declared.tree.Joined.TheVariants.{Same, New, Unlike}
 
 -- the types in order
 abbrev pub types : Tree → List FlowType
 types (Unusable count) = replicate count flow.Unusable
-types (One t) = t ∷ []
+types (Few ts) = ts
 types (Pair' p first count q second) = types first ++ types second
 
 -- each pair knows how many types its first tree has
 abbrev pub is_sized : Tree → Bool
 is_sized (Unusable count) = true
-is_sized (One t) = true
+is_sized (Few ts) = true
 is_sized (Pair' p first count q second) =
     count == length (types first) && (is_sized first && is_sized second)
 

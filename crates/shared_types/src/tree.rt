@@ -9,18 +9,25 @@ ghost use Rattle.flow_types.specs.declared.flow_type.FlowType.TheVariants as flo
 ghost use Rattle.shared_types.specs.declared.tree.Tree.{Tree};
 ghost use Rattle.shared_types.specs.Trees.{types, is_sized, IsSized, IsJoined, IsReplaced, all_unusable, all_operands, longs};
 
-use flow_types::{FlowType, fits, merge_type};
-use jvm_base::NoMemory;
+use crate::block::{
+    all_fit, all_operands, all_unusable, alone, count_longs, first, has, joined, replaced, with,
+};
+use flow_types::FlowType;
+use jvm_base::{List, NoMemory};
 use program_image::Image;
+use shared_value::Shared;
 use std::alloc::Global;
 use std::sync::Arc;
 
-/// Types in order: so many that are Unusable, one, or those of two trees. A pair knows how many its
-/// first tree has.
+/// So many types at most stand in one block.
+const BLOCK: usize = 32;
+
+/// Types in order: so many that are Unusable, a block of a few, or those of two trees. A pair knows
+/// how many its first tree has.
 #[derive(Drop)]
 pub(crate) enum Tree {
     Unusable(usize),
-    One(FlowType),
+    Few(Shared<List<FlowType>>),
     Pair(Arc<Tree, Global>, usize, Arc<Tree, Global>),
 }
 
@@ -46,15 +53,24 @@ pub(crate) fn pair(alloc: Global, first: Tree, count: usize, second: Tree) -> Re
     Ok(Tree::Pair(first, count, second))
 }
 
-/// So many types, Unusable but for the one at a place.
+/// A tree of one block.
+fn few(alloc: Global, block: List<FlowType>) -> Result<Tree, NoMemory>
+    ensures types { IfOk result (λ t. types t ≡ block) }
+    ensures sized { IfOk result (λ t. IsSized t) }
+{
+    Ok(Tree::Few(Shared::new(alloc, block)?))
+}
+
+/// So many types, Unusable but for the one at a place. Only a range of a few becomes a block.
 #[tactic(auto, using(crate::proofs::Laws::split_left, crate::proofs::Laws::split_right, crate::proofs::Laws::length_top))]
 fn one_of(alloc: Global, count: usize, at: usize, t: FlowType) -> Result<Tree, NoMemory>
     requires { at < count }
-    ensures types { IfOk result (λ tree. types tree ≡ slice_set (replicate count flow.Unusable) at t) }
+    ensures types { IfOk result
+        (λ tree. types tree ≡ slice_set (replicate count flow.Unusable) at t) }
     ensures sized { IfOk result (λ tree. IsSized tree) }
 {
-    if count == 1 {
-        return Ok(Tree::One(t));
+    if count <= BLOCK {
+        return few(alloc, alone(alloc, count, at, t)?);
     }
     let half = count / 2;
     if at < half {
@@ -66,17 +82,37 @@ fn one_of(alloc: Global, count: usize, at: usize, t: FlowType) -> Result<Tree, N
     }
 }
 
-/// The type above two.
-fn join_one(image: &Image, high: FlowType, low: FlowType) -> Joined
+/// The types above those of two blocks. Where none rises it takes no memory.
+#[tactic(auto, using(crate::proofs::Laws::fit_joined))]
+fn join_blocks(
+    alloc: Global,
+    image: &Image,
+    high: &[FlowType],
+    low: &[FlowType],
+) -> Result<Joined, NoMemory>
     requires tree { IsTree (superclasses image.now) }
-    ensures { IsJoined (superclasses image.now) (high ∷ []) (low ∷ []) result }
+    requires alike { length high.now ≡ length low.now }
+    ensures { IfOk result (λ j. IsJoined (superclasses image.now) high.now low.now j) }
 {
-    let t = merge_type(image, high, low);
-    if t == high {
-        Joined::Same
-    } else {
-        Joined::New(Tree::One(t))
+    if all_fit(image, low, high) {
+        return Ok(Joined::Same);
     }
+    Ok(Joined::New(few(alloc, joined(alloc, image, high, low)?)?))
+}
+
+/// A block with another type in place of each copy of one.
+fn replace_block(
+    alloc: Global,
+    block: &[FlowType],
+    was: FlowType,
+    now: FlowType,
+) -> Result<Option<Tree>, NoMemory>
+    ensures { IfOk result (λ o. IsReplaced was now block.now o) }
+{
+    if !has(block, was) {
+        return Ok(None);
+    }
+    Ok(Some(few(alloc, replaced(alloc, block, was, now)?)?))
 }
 
 /// What a pair's parts are joined to, as a tree of both.
@@ -171,7 +207,7 @@ impl Tree {
     {
         match self {
             Tree::Unusable(count) => Ok(Tree::Unusable(*count)),
-            Tree::One(t) => Ok(Tree::One(*t)),
+            Tree::Few(block) => Ok(Tree::Few(block.share()?)),
             Tree::Pair(first, count, second) => Ok(Tree::Pair(
                 Arc::try_clone(first)?,
                 *count,
@@ -194,7 +230,7 @@ impl Tree {
                     None
                 }
             }
-            Tree::One(t) => { if at == 0 { Some(*t) } else { None } }
+            Tree::Few(block) => block.get().get(at).copied(),
             Tree::Pair(first, count, second) => {
                 if at < *count {
                     first.get(at)
@@ -215,7 +251,7 @@ impl Tree {
     {
         match self {
             Tree::Unusable(count) => one_of(alloc, *count, at, t),
-            Tree::One(_) => Ok(Tree::One(t)),
+            Tree::Few(block) => few(alloc, with(alloc, block.get().as_slice(), at, t)?),
             Tree::Pair(first, count, second) => {
                 if at < *count {
                     let first = Arc::new(alloc, first.set(alloc, at, t)?)?;
@@ -236,7 +272,7 @@ impl Tree {
     {
         match self {
             Tree::Unusable(_) => true,
-            Tree::One(t) => n == 0 || matches!(t, FlowType::Unusable),
+            Tree::Few(block) => all_unusable(first(block.get().as_slice(), n)),
             Tree::Pair(first, count, second) => {
                 first.are_unusable(n) && (n <= *count || second.are_unusable(n - *count))
             }
@@ -250,15 +286,21 @@ impl Tree {
         requires low { IsSized self.now }
         requires high { IsSized high.now }
         requires alike { length (types self.now) ≡ length (types high.now) }
-        ensures { IfSome result (λ b. b ≡ types_fit (superclasses image.now) (take n (types self.now)) (take n (types high.now))) }
+        ensures { IfSome result
+            (λ b. b ≡ types_fit (superclasses image.now) (take n (types self.now))
+            (take n (types high.now))) }
     {
         if let Tree::Unusable(_) = high {
             return Some(true);
         }
         match self {
             Tree::Unusable(_) => Some(high.are_unusable(n)),
-            Tree::One(low) => match high {
-                Tree::One(up) => Some(n == 0 || fits(image, low, up)),
+            Tree::Few(low) => match high {
+                Tree::Few(up) => Some(all_fit(
+                    image,
+                    first(low.get().as_slice(), n),
+                    first(up.get().as_slice(), n),
+                )),
                 _ => None,
             },
             Tree::Pair(first, count, second) => match high {
@@ -284,7 +326,7 @@ impl Tree {
     {
         match self {
             Tree::Unusable(count) => n == 0 || *count == 0,
-            Tree::One(t) => n == 0 || !matches!(t, FlowType::Unusable | FlowType::High),
+            Tree::Few(block) => all_operands(first(block.get().as_slice(), n)),
             Tree::Pair(first, count, second) => {
                 first.are_operands(n) && (n <= *count || second.are_operands(n - *count))
             }
@@ -299,8 +341,7 @@ impl Tree {
     {
         match self {
             Tree::Unusable(_) => 0,
-            Tree::One(FlowType::Long) => n.min(1),
-            Tree::One(_) => 0,
+            Tree::Few(block) => count_longs(first(block.get().as_slice(), n)),
             Tree::Pair(first, count, second) => {
                 if n <= *count {
                     first.longs(n)
@@ -318,15 +359,18 @@ impl Tree {
         requires high { IsSized self.now }
         requires low { IsSized low.now }
         requires alike { length (types self.now) ≡ length (types low.now) }
-        ensures { IfOk result (λ j. IsJoined (superclasses image.now) (types self.now) (types low.now) j) }
+        ensures { IfOk result
+            (λ j. IsJoined (superclasses image.now) (types self.now) (types low.now) j) }
     {
         if let Tree::Unusable(_) = self {
             return Ok(Joined::Same);
         }
         match low {
             Tree::Unusable(count) => Ok(Joined::New(Tree::Unusable(*count))),
-            Tree::One(b) => match self {
-                Tree::One(a) => Ok(join_one(image, *a, *b)),
+            Tree::Few(b) => match self {
+                Tree::Few(a) => {
+                    join_blocks(alloc, image, a.get().as_slice(), b.get().as_slice())
+                }
                 _ => Ok(Joined::Unlike),
             },
             Tree::Pair(under, other, below) => match self {
@@ -354,11 +398,7 @@ impl Tree {
     {
         match self {
             Tree::Unusable(_) => Ok(None),
-            Tree::One(t) => Ok(if *t == was {
-                Some(Tree::One(now))
-            } else {
-                None
-            }),
+            Tree::Few(block) => replace_block(alloc, block.get().as_slice(), was, now),
             Tree::Pair(first, count, second) => {
                 let before = first.replace(alloc, was, now)?;
                 let after = second.replace(alloc, was, now)?;

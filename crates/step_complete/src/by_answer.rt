@@ -38,8 +38,10 @@ fn after_init(levels: &[Level]) -> Mode
 fn give(image: &Image, asked: Asked, value: Option<Value>, mode: &mut Mode, levels: &mut Vec<Level>)
     requires whole { IsWhole image.now }
     requires can { CanTurn image.now (given_turn asked value) (reverse levels.old.items) }
-    requires room { begins asked (Gives value) ≡ true → vec_len levels.old < vec_capacity levels.old }
-    ensures { complete image.now (request_like asked) (Gives value) mode.old (reverse levels.old.items)
+    requires room { begins asked (Gives value) ≡ true
+        → vec_len levels.old < vec_capacity levels.old }
+    ensures { complete image.now (request_like asked) (Gives value) mode.old
+        (reverse levels.old.items)
         ≡ (mode.new, reverse levels.new.items) }
 {
     match asked {

@@ -35,7 +35,8 @@ pub fn call(
     requires whole { IsWhole image.now }
     ensures made { result ≡ Ok true → called image.now method values.now (reverse levels.old.items)
         ≡ Some (Running, reverse levels.new.items) }
-    ensures none { result ≡ Ok false → called image.now method values.now (reverse levels.old.items) ≡ None }
+    ensures none { result ≡ Ok false → called image.now method values.now (reverse levels.old.items)
+        ≡ None }
     ensures same { result ≢ Ok true → levels.new.items ≡ levels.old.items }
 {
     let frame = match new_frame(alloc, image, method, values)? {
@@ -52,7 +53,8 @@ pub fn call(
 pub fn leave(image: &Image, value: Option<Value>, levels: &mut Vec<Level>)
     requires whole { IsWhole image.now }
     requires can { CanTurn image.now (turn.Answers value) (below (reverse levels.old.items)) }
-    ensures { reverse levels.new.items ≡ answer_top image.now value (below (reverse levels.old.items)) }
+    ensures { reverse levels.new.items
+        ≡ answer_top image.now value (below (reverse levels.old.items)) }
 {
     drop_top(levels);
     turn_top(image, Turn::Answers(value), levels);

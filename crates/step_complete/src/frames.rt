@@ -54,7 +54,7 @@ fn call_locals(alloc: Global, count: u32, values: &[Value]) -> Result<List<Value
 fn is_without_receiver(method: &MethodInfo) -> bool
     ensures { result ≡ not (is_instance method.now) }
 {
-    has_flag(method.flags, STATIC) || method.name.as_slice() == CLINIT.as_slice()
+    has_flag(method.flags, STATIC) || method.name.get().as_slice() == CLINIT.as_slice()
 }
 
 /// The receiver of a call.

@@ -70,7 +70,8 @@ fn returned(op: u8, frame: &Frame) -> Option<Value>
 fn leave(image: &Image, frame: &mut Frame)
     requires whole { IsWhole image.now }
     requires takes { CanTurnFrame image.now turn.Leaves frame.old }
-    ensures { frame.new ≡ left_by image.now frame.old (instruction_at image.now frame.old.method frame.old.at) }
+    ensures { frame.new
+        ≡ left_by image.now frame.old (instruction_at image.now frame.old.method frame.old.at) }
 {
     match instruction_at(image, frame.method, frame.at) {
         None => {}

@@ -32,7 +32,8 @@ use std::alloc::Global;
 fn given_fits(image: &Image, frame: &Frame) -> Given
     requires here { frame.now.method < length image.now.methods }
     requires whole { IsWhole image.now }
-    ensures { result ≡ given_fits image.now (target_of image.now frame.now.method frame.now.at) frame.now.stack.values }
+    ensures { result ≡ given_fits image.now (target_of image.now frame.now.method frame.now.at)
+        frame.now.stack.values }
 {
     match frame.stack.get(0) {
         Some(Value::Ref(object)) => {
@@ -43,10 +44,11 @@ fn given_fits(image: &Image, frame: &Frame) -> Given
 }
 
 /// What the program tells the instruction of a frame.
-fn given_to(image: &Image, frame: &Frame, op: &Op) -> Given
+pub fn given_to(image: &Image, frame: &Frame, op: &Op) -> Given
     requires here { frame.now.method < length image.now.methods }
     requires whole { IsWhole image.now }
-    ensures { result ≡ given_to image.now op.now (target_of image.now frame.now.method frame.now.at) frame.now.stack.values }
+    ensures { result ≡ given_to image.now op.now (target_of image.now frame.now.method frame.now.at)
+        frame.now.stack.values }
 {
     match op {
         Op::Ldc(_) | Op::Ldc2(_) => Given::Constant(constant_named(image, frame)),
@@ -88,9 +90,13 @@ fn instruction_plan<T: Texts>(
 ) -> Result<Plan, NoMemory>
     requires kept { IsKept site.now.image.now site.now.tables.now }
     requires within { frame.now.method < length site.now.image.now.methods }
-    requires here { instruction_at site.now.image.now frame.now.method frame.now.at ≡ Some placed.now }
+    requires here { instruction_at site.now.image.now frame.now.method frame.now.at
+        ≡ Some placed.now }
     requires can { CanPlanAt site.now.image.now frame.now placed.now }
-    ensures plan { IfOk result (λ r. shown site.now.image.now (Some frame.now) r ≡ instruction_plan site.now.image.now (who_at site.now (T.known texts.now)) frame.now placed.now (target_of site.now.image.now frame.now.method frame.now.at)) }
+    ensures plan { IfOk result
+        (λ r. shown site.now.image.now (Some frame.now) r
+        ≡ instruction_plan site.now.image.now (who_at site.now (T.known texts.now)) frame.now
+        placed.now (target_of site.now.image.now frame.now.method frame.now.at)) }
     ensures goes { IfOk result (λ r. GoesBy site.now.image.now (Some frame.now) r.next) }
 {
     let given = given_to(site.image, frame, &placed.op);
@@ -114,7 +120,9 @@ fn body_plan<T: Texts>(
     requires kept { IsKept site.now.image.now site.now.tables.now }
     requires body { frame.now.phase ≡ phase.Body }
     requires can { CanPlanIn site.now.image.now frame.now }
-    ensures plan { IfOk result (λ r. shown site.now.image.now (Some frame.now) r ≡ body_plan site.now.image.now (who_at site.now (T.known texts.now)) frame.now) }
+    ensures plan { IfOk result
+        (λ r. shown site.now.image.now (Some frame.now) r
+        ≡ body_plan site.now.image.now (who_at site.now (T.known texts.now)) frame.now) }
     ensures goes { IfOk result (λ r. GoesBy site.now.image.now (Some frame.now) r.next) }
 {
     match instruction_at(site.image, frame.method, frame.at) {
@@ -132,7 +140,10 @@ pub(crate) fn frame_plan<T: Texts>(
 ) -> Result<Plan, NoMemory>
     requires kept { IsKept site.now.image.now site.now.tables.now }
     requires can { CanPlanIn site.now.image.now frame.now }
-    ensures plan { IfOk result (λ r. shown site.now.image.now (Some frame.now) r ≡ frame_plan site.now.image.now (who_at site.now (T.known texts.now)) frame.now frame.now.phase frame.now.lock) }
+    ensures plan { IfOk result
+        (λ r. shown site.now.image.now (Some frame.now) r
+        ≡ frame_plan site.now.image.now (who_at site.now (T.known texts.now)) frame.now
+        frame.now.phase frame.now.lock) }
     ensures goes { IfOk result (λ r. GoesBy site.now.image.now (Some frame.now) r.next) }
 {
     match (frame.phase, frame.lock) {

@@ -31,7 +31,9 @@ pub(crate) fn filled<T: Texts>(
     object: Name,
     value: Value,
 ) -> Result<Next, NoMemory>
-    ensures next { IfOk result (λ r. (p : Linked) (f : Called) → shown_next p (Some f) r ≡ filled (who_at site.now (T.known texts.now)) number object value) }
+    ensures next { IfOk result
+        (λ r. (p : Linked) (f : Called) → shown_next p (Some f) r
+        ≡ filled (who_at site.now (T.known texts.now)) number object value) }
     ensures still { IfOk result (λ r. IsNoMove r) }
 {
     let Value::Ref(string) = value else {
@@ -54,7 +56,10 @@ pub(crate) fn append<T: Texts>(
     object: Name,
     value: Value,
 ) -> Result<Next, NoMemory>
-    ensures next { IfOk result (λ r. (p : Linked) (f : Called) → shown_next p (Some f) r ≡ with_shown (who_at site.now (T.known texts.now)) (seen_shown shown) value (λ us. Needs (Buffer object number us))) }
+    ensures next { IfOk result
+        (λ r. (p : Linked) (f : Called) → shown_next p (Some f) r
+        ≡ with_shown (who_at site.now (T.known texts.now)) (seen_shown shown) value
+        (λ us. Needs (Buffer object number us))) }
     ensures still { IfOk result (λ r. IsNoMove r) }
 {
     match shown_text(alloc, texts, shown, value)? {
@@ -72,7 +77,10 @@ pub(crate) fn print<T: Texts>(
     shown: Shown,
     value: Value,
 ) -> Result<Next, NoMemory>
-    ensures next { IfOk result (λ r. (p : Linked) (f : Called) → shown_next p (Some f) r ≡ with_shown (who_at site.now (T.known texts.now)) (seen_shown shown) value (λ us. Needs (Print us))) }
+    ensures next { IfOk result
+        (λ r. (p : Linked) (f : Called) → shown_next p (Some f) r
+        ≡ with_shown (who_at site.now (T.known texts.now)) (seen_shown shown) value
+        (λ us. Needs (Print us))) }
     ensures still { IfOk result (λ r. IsNoMove r) }
 {
     match shown_text(alloc, texts, shown, value)? {
@@ -90,7 +98,10 @@ pub(crate) fn print_line<T: Texts>(
     shown: Shown,
     value: Value,
 ) -> Result<Next, NoMemory>
-    ensures next { IfOk result (λ r. (p : Linked) (f : Called) → shown_next p (Some f) r ≡ with_shown (who_at site.now (T.known texts.now)) (seen_shown shown) value (λ us. Needs (Print (us ++ line_end)))) }
+    ensures next { IfOk result
+        (λ r. (p : Linked) (f : Called) → shown_next p (Some f) r
+        ≡ with_shown (who_at site.now (T.known texts.now)) (seen_shown shown) value
+        (λ us. Needs (Print (us ++ line_end)))) }
     ensures still { IfOk result (λ r. IsNoMove r) }
 {
     match shown_text(alloc, texts, shown, value)? {

@@ -36,7 +36,10 @@ fn runs_method<T: Texts>(
     method: u32,
 ) -> Result<Next, NoMemory>
     requires enough { count ≤ length frame.now.stack.values }
-    ensures next { IfOk result (λ r. shown_next site.now.image.now (Some frame.now) r ≡ runs_method site.now.image.now (who_at site.now (T.known texts.now)) frame.now method (call_values count frame.now.stack.values)) }
+    ensures next { IfOk result
+        (λ r. shown_next site.now.image.now (Some frame.now) r
+        ≡ runs_method site.now.image.now (who_at site.now (T.known texts.now)) frame.now method
+        (call_values count frame.now.stack.values)) }
     ensures still { IfOk result (λ r. IsNoMove r) }
 {
     if method >= site.image.methods() {
@@ -59,7 +62,10 @@ fn runs_selected<T: Texts>(
     selected: Selected,
 ) -> Result<Next, NoMemory>
     requires enough { count ≤ length frame.now.stack.values }
-    ensures next { IfOk result (λ r. shown_next site.now.image.now (Some frame.now) r ≡ runs_selected site.now.image.now (who_at site.now (T.known texts.now)) frame.now (call_values count frame.now.stack.values) selected) }
+    ensures next { IfOk result
+        (λ r. shown_next site.now.image.now (Some frame.now) r
+        ≡ runs_selected site.now.image.now (who_at site.now (T.known texts.now)) frame.now
+        (call_values count frame.now.stack.values) selected) }
     ensures still { IfOk result (λ r. IsNoMove r) }
 {
     match selected {
@@ -81,7 +87,10 @@ fn special_call<T: Texts>(
 ) -> Result<Next, NoMemory>
     requires enough { count ≤ length frame.now.stack.values }
     requires named { method < length site.now.image.now.methods }
-    ensures next { IfOk result (λ r. shown_next site.now.image.now (Some frame.now) r ≡ special_call site.now.image.now (who_at site.now (T.known texts.now)) frame.now method (call_values count frame.now.stack.values)) }
+    ensures next { IfOk result
+        (λ r. shown_next site.now.image.now (Some frame.now) r
+        ≡ special_call site.now.image.now (who_at site.now (T.known texts.now)) frame.now method
+        (call_values count frame.now.stack.values)) }
     ensures still { IfOk result (λ r. IsNoMove r) }
 {
     let current = owner_of(site.image, frame.method);
@@ -108,7 +117,10 @@ fn selected_call<T: Texts>(
 ) -> Result<Next, NoMemory>
     requires enough { count ≤ length frame.now.stack.values }
     requires named { method < length site.now.image.now.methods }
-    ensures next { IfOk result (λ r. shown_next site.now.image.now (Some frame.now) r ≡ selected_call site.now.image.now (who_at site.now (T.known texts.now)) frame.now op method (call_values count frame.now.stack.values) receiver) }
+    ensures next { IfOk result
+        (λ r. shown_next site.now.image.now (Some frame.now) r
+        ≡ selected_call site.now.image.now (who_at site.now (T.known texts.now)) frame.now op method
+        (call_values count frame.now.stack.values) receiver) }
     ensures still { IfOk result (λ r. IsNoMove r) }
 {
     let interface = op == opcode::INVOKEINTERFACE;
@@ -130,7 +142,10 @@ fn receiver_call<T: Texts>(
     requires some { 0 < count }
     requires enough { count ≤ length frame.now.stack.values }
     requires named { method < length site.now.image.now.methods }
-    ensures next { IfOk result (λ r. shown_next site.now.image.now (Some frame.now) r ≡ receiver_call site.now.image.now (who_at site.now (T.known texts.now)) frame.now op method (call_values count frame.now.stack.values)) }
+    ensures next { IfOk result
+        (λ r. shown_next site.now.image.now (Some frame.now) r
+        ≡ receiver_call site.now.image.now (who_at site.now (T.known texts.now)) frame.now op method
+        (call_values count frame.now.stack.values)) }
     ensures still { IfOk result (λ r. IsNoMove r) }
 {
     let Some(Value::Ref(receiver)) = frame.stack.get(count - 1) else {
@@ -156,7 +171,10 @@ pub(crate) fn call_plan<T: Texts>(
     requires within { frame.now.method < length site.now.image.now.methods }
     requires few { HasFewArguments op.now }
     requires enough { HasOperands op.now frame.now.stack.values }
-    ensures plan { IfOk result (λ r. shown site.now.image.now (Some frame.now) r ≡ call_plan site.now.image.now (who_at site.now (T.known texts.now)) frame.now op.now (target_of site.now.image.now frame.now.method frame.now.at) frame.now.stack.values) }
+    ensures plan { IfOk result
+        (λ r. shown site.now.image.now (Some frame.now) r
+        ≡ call_plan site.now.image.now (who_at site.now (T.known texts.now)) frame.now op.now
+        (target_of site.now.image.now frame.now.method frame.now.at) frame.now.stack.values) }
     ensures call { IfOk result (λ r. IsOfCall op.now r.next) }
 {
     let Op::Invoke { op, item: _, desc } = op else {

@@ -42,7 +42,8 @@ fn loads(stack: &Operands) -> Next
 /// A write of one.
 #[tactic(auto, using(crate::proofs::Instructions::stores_are))]
 fn stores(op: u8, stack: &Operands) -> Next
-    ensures { (p : Linked) (f : Option Called) → shown_next p f result ≡ stores op stack.now.values }
+    ensures { (p : Linked) (f : Option Called) → shown_next p f result
+        ≡ stores op stack.now.values }
 {
     match (stack.get(0), stack.get(1), stack.get(2)) {
         (Some(value), Some(Value::Int(index)), Some(Value::Ref(array))) => {
@@ -54,7 +55,8 @@ fn stores(op: u8, stack: &Operands) -> Next
 
 /// A read of a field.
 fn gets(place: u32, stack: &Operands) -> Next
-    ensures { (p : Linked) (f : Option Called) → shown_next p f result ≡ gets place stack.now.values }
+    ensures { (p : Linked) (f : Option Called) → shown_next p f result
+        ≡ gets place stack.now.values }
 {
     match stack.get(0) {
         Some(Value::Ref(object)) => Next::Needs(Request::Get(object, place)),
@@ -65,7 +67,8 @@ fn gets(place: u32, stack: &Operands) -> Next
 /// A write of one.
 #[tactic(auto, using(crate::proofs::Instructions::puts_are))]
 fn puts(desc: &Desc, place: u32, stack: &Operands) -> Next
-    ensures { (p : Linked) (f : Option Called) → shown_next p f result ≡ puts desc.now place stack.now.values }
+    ensures { (p : Linked) (f : Option Called) → shown_next p f result
+        ≡ puts desc.now place stack.now.values }
 {
     match (stack.get(0), stack.get(1)) {
         (Some(value), Some(Value::Ref(object))) => {
@@ -105,7 +108,9 @@ fn asked_class(image: &Image, tables: &Tables, class: u32, place: u32) -> Option
 fn static_plan(site: &Site<'_>, frame: &Frame, op: u8, desc: &Desc) -> Plan
     requires here { frame.now.method < length site.now.image.now.methods }
     requires kept { IsKept site.now.image.now site.now.tables.now }
-    ensures { shown site.now.image.now (Some frame.now) result ≡ static_plan site.now.image.now op desc.now (target_of site.now.image.now frame.now.method frame.now.at) frame.now.stack.values }
+    ensures { shown site.now.image.now (Some frame.now) result
+        ≡ static_plan site.now.image.now op desc.now
+        (target_of site.now.image.now frame.now.method frame.now.at) frame.now.stack.values }
 {
     match target(site.image, frame) {
         Some(
@@ -125,7 +130,9 @@ fn static_plan(site: &Site<'_>, frame: &Frame, op: u8, desc: &Desc) -> Plan
 /// An instruction on a field of an object.
 fn field_next(image: &Image, frame: &Frame, op: u8, desc: &Desc) -> Next
     requires { frame.now.method < length image.now.methods }
-    ensures { (f : Option Called) → shown_next image.now f result ≡ field_next op desc.now (target_of image.now frame.now.method frame.now.at) frame.now.stack.values }
+    ensures { (f : Option Called) → shown_next image.now f result
+        ≡ field_next op desc.now (target_of image.now frame.now.method frame.now.at)
+        frame.now.stack.values }
 {
     match target(image, frame) {
         Some(
@@ -145,7 +152,8 @@ fn field_next(image: &Image, frame: &Frame, op: u8, desc: &Desc) -> Next
 
 /// The length of an array.
 fn measures(stack: &Operands) -> Next
-    ensures { (p : Linked) (f : Option Called) → shown_next p f result ≡ of_reference (λ n. Needs (Len n)) stack.now.values }
+    ensures { (p : Linked) (f : Option Called) → shown_next p f result
+        ≡ of_reference (λ n. Needs (Len n)) stack.now.values }
 {
     match stack.get(0) {
         Some(Value::Ref(array)) => Next::Needs(Request::Len(array)),
@@ -155,7 +163,9 @@ fn measures(stack: &Operands) -> Next
 
 /// A lock that is entered or left.
 fn locks(op: u8, stack: &Operands) -> Next
-    ensures { (p : Linked) (f : Option Called) → shown_next p f result ≡ of_reference (λ n. Needs (if op == code.MONITORENTER then Enter n else Exit n false)) stack.now.values }
+    ensures { (p : Linked) (f : Option Called) → shown_next p f result
+        ≡ of_reference (λ n. Needs (if op == code.MONITORENTER then Enter n else Exit n false))
+        stack.now.values }
 {
     match stack.get(0) {
         Some(Value::Ref(lock)) if op == opcode::MONITORENTER => Next::Needs(Request::Enter(lock)),
@@ -168,7 +178,8 @@ fn locks(op: u8, stack: &Operands) -> Next
 fn array_over_named(site: &Site<'_>, frame: &Frame) -> u32
     requires here { frame.now.method < length site.now.image.now.methods }
     requires kept { IsKept site.now.image.now site.now.tables.now }
-    ensures { result ≡ array_class_over site.now.image.now (class_in (target_of site.now.image.now frame.now.method frame.now.at)) }
+    ensures { result ≡ array_class_over site.now.image.now
+        (class_in (target_of site.now.image.now frame.now.method frame.now.at)) }
 {
     site.tables.array_over(class_named(site.image, frame))
 }
@@ -183,7 +194,9 @@ fn makes(alloc: Global, class: u32) -> Plan
 /// An array of a class, with so many sizes.
 fn makes_array(alloc: Global, class: u32, count: u32, stack: &Operands) -> Result<Plan, NoMemory>
     requires { count ≤ length stack.now.values }
-    ensures { IfOk result (λ r. (p : Linked) (f : Option Called) → shown p f r ≡ plain (makes_array class count stack.now.values)) }
+    ensures { IfOk result
+        (λ r. (p : Linked) (f : Option Called) → shown p f r
+        ≡ plain (makes_array class count stack.now.values)) }
 {
     let sizes = sizes(alloc, stack, count)?;
     Ok(plain(Next::Needs(Request::Make(class, sizes))))
@@ -199,7 +212,10 @@ pub(crate) fn shared_plan(
     requires here { frame.now.method < length site.now.image.now.methods }
     requires kept { IsKept site.now.image.now site.now.tables.now }
     requires enough { HasOperands op.now frame.now.stack.values }
-    ensures { IfOk result (λ r. shown site.now.image.now (Some frame.now) r ≡ shared_plan site.now.image.now op.now (target_of site.now.image.now frame.now.method frame.now.at) frame.now.stack.values) }
+    ensures { IfOk result
+        (λ r. shown site.now.image.now (Some frame.now) r
+        ≡ shared_plan site.now.image.now op.now
+        (target_of site.now.image.now frame.now.method frame.now.at) frame.now.stack.values) }
 {
     let stack = &frame.stack;
     let image = site.image;

@@ -38,7 +38,10 @@ fn on_argument<T: Texts>(
     object: Name,
     value: Value,
 ) -> Result<Next, NoMemory>
-    ensures next { IfOk result (λ r. (f : Called) → shown_next site.now.image.now (Some f) r ≡ intrinsic_call site.now.image.now (who_at site.now (T.known texts.now)) number f (seen_argument intrinsic) (Ref object ∷ value ∷ [])) }
+    ensures next { IfOk result
+        (λ r. (f : Called) → shown_next site.now.image.now (Some f) r
+        ≡ intrinsic_call site.now.image.now (who_at site.now (T.known texts.now)) number f
+        (seen_argument intrinsic) (Ref object ∷ value ∷ [])) }
     ensures still { IfOk result (λ r. IsNoMove r) }
 {
     match (intrinsic, value) {
@@ -64,7 +67,10 @@ fn value_of<T: Texts>(
     value: Value,
     behind: Option<Value>,
 ) -> Result<Next, NoMemory>
-    ensures next { IfOk result (λ r. (f : Called) → shown_next site.now.image.now (Some f) r ≡ intrinsic_call site.now.image.now (who_at site.now (T.known texts.now)) number f machine.ValueOf (value ∷ option_to_list behind)) }
+    ensures next { IfOk result
+        (λ r. (f : Called) → shown_next site.now.image.now (Some f) r
+        ≡ intrinsic_call site.now.image.now (who_at site.now (T.known texts.now)) number f
+        machine.ValueOf (value ∷ option_to_list behind)) }
     ensures still { IfOk result (λ r. IsNoMove r) }
 {
     match value {
@@ -84,7 +90,10 @@ fn on_object<T: Texts>(
     object: Name,
     behind: Option<Value>,
 ) -> Result<Next, NoMemory>
-    ensures next { IfOk result (λ r. (f : Called) → shown_next site.now.image.now (Some f) r ≡ intrinsic_call site.now.image.now (who_at site.now (T.known texts.now)) number f (seen_object intrinsic) (Ref object ∷ option_to_list behind)) }
+    ensures next { IfOk result
+        (λ r. (f : Called) → shown_next site.now.image.now (Some f) r
+        ≡ intrinsic_call site.now.image.now (who_at site.now (T.known texts.now)) number f
+        (seen_object intrinsic) (Ref object ∷ option_to_list behind)) }
     ensures still { IfOk result (λ r. IsNoMove r) }
 {
     Ok(match intrinsic {
@@ -113,7 +122,10 @@ fn intrinsic_call<T: Texts>(
     first: Option<Value>,
     second: Option<Value>,
 ) -> Result<Next, NoMemory>
-    ensures next { IfOk result (λ r. (f : Called) → shown_next site.now.image.now (Some f) r ≡ intrinsic_call site.now.image.now (who_at site.now (T.known texts.now)) number f (seen intrinsic) (two_of first second)) }
+    ensures next { IfOk result
+        (λ r. (f : Called) → shown_next site.now.image.now (Some f) r
+        ≡ intrinsic_call site.now.image.now (who_at site.now (T.known texts.now)) number f
+        (seen intrinsic) (two_of first second)) }
     ensures still { IfOk result (λ r. IsNoMove r) }
 {
     match (intrinsic, first, second) {
@@ -142,7 +154,10 @@ pub(crate) fn calls_intrinsic<T: Texts>(
     number: u8,
 ) -> Result<Next, NoMemory>
     requires { count ≤ length frame.now.stack.values }
-    ensures next { IfOk result (λ r. shown_next site.now.image.now (Some frame.now) r ≡ calls_intrinsic site.now.image.now (who_at site.now (T.known texts.now)) number frame.now (call_values count frame.now.stack.values)) }
+    ensures next { IfOk result
+        (λ r. shown_next site.now.image.now (Some frame.now) r
+        ≡ calls_intrinsic site.now.image.now (who_at site.now (T.known texts.now)) number frame.now
+        (call_values count frame.now.stack.values)) }
     ensures still { IfOk result (λ r. IsNoMove r) }
 {
     let Some(intrinsic) = intrinsic_of(number) else {

@@ -17,6 +17,7 @@ mod unwinding;
 mod values;
 mod who;
 
+pub use bodies::given_to;
 pub use plan::{Next, Plan};
 pub use top::plan_of;
 pub use who::{Texts, Who};

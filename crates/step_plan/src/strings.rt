@@ -29,7 +29,9 @@ fn count_value(count: usize) -> Value
 
 /// The length of a text.
 pub(crate) fn text_length<T: Texts>(texts: &T, object: Name) -> Next
-    ensures next { (p : Linked) (f : Called) → shown_next p (Some f) result ≡ from (Wants object) (λ us. answers p f (Some (count_value (length us)))) (T.known texts.now object) }
+    ensures next { (p : Linked) (f : Called) → shown_next p (Some f) result
+        ≡ from (Wants object) (λ us. answers p f (Some (count_value (length us))))
+        (T.known texts.now object) }
     ensures still { IsNoMove result }
 {
     match texts.text(object) {
@@ -40,7 +42,8 @@ pub(crate) fn text_length<T: Texts>(texts: &T, object: Name) -> Next
 
 /// The unit at an index.
 fn unit_at(units: &[u16], index: i32) -> Next
-    ensures next { (p : Linked) (f : Called) → shown_next p (Some f) result ≡ char_at p f units.now index }
+    ensures next { (p : Linked) (f : Called) → shown_next p (Some f) result
+        ≡ char_at p f units.now index }
     ensures still { IsNoMove result }
 {
     if index < 0 {
@@ -54,7 +57,8 @@ fn unit_at(units: &[u16], index: i32) -> Next
 
 /// The unit of a text at an index.
 pub(crate) fn char_at<T: Texts>(texts: &T, object: Name, index: i32) -> Next
-    ensures next { (p : Linked) (f : Called) → shown_next p (Some f) result ≡ from (Wants object) (λ us. char_at p f us index) (T.known texts.now object) }
+    ensures next { (p : Linked) (f : Called) → shown_next p (Some f) result
+        ≡ from (Wants object) (λ us. char_at p f us index) (T.known texts.now object) }
     ensures still { IsNoMove result }
 {
     match texts.text(object) {
@@ -72,7 +76,8 @@ fn bool_value(holds: bool) -> Value
 
 /// Whether an object is a String of a text.
 fn same_as<T: Texts>(site: &Site<'_>, texts: &T, units: &[u16], value: Value) -> Next
-    ensures next { (p : Linked) (f : Called) → shown_next p (Some f) result ≡ same_as p (who_at site.now (T.known texts.now)) f units.now value }
+    ensures next { (p : Linked) (f : Called) → shown_next p (Some f) result
+        ≡ same_as p (who_at site.now (T.known texts.now)) f units.now value }
     ensures still { IsNoMove result }
 {
     match value {
@@ -86,7 +91,9 @@ fn same_as<T: Texts>(site: &Site<'_>, texts: &T, units: &[u16], value: Value) ->
 
 /// Whether an object is a String of the text of another one.
 pub(crate) fn same_text<T: Texts>(site: &Site<'_>, texts: &T, object: Name, value: Value) -> Next
-    ensures next { (p : Linked) (f : Called) → shown_next p (Some f) result ≡ from (Wants object) (λ us. same_as p (who_at site.now (T.known texts.now)) f us value) (T.known texts.now object) }
+    ensures next { (p : Linked) (f : Called) → shown_next p (Some f) result
+        ≡ from (Wants object) (λ us. same_as p (who_at site.now (T.known texts.now)) f us value)
+        (T.known texts.now object) }
     ensures still { IsNoMove result }
 {
     match texts.text(object) {
@@ -103,7 +110,9 @@ fn behind<T: Texts>(
     units: &[u16],
     value: Value,
 ) -> Result<Next, NoMemory>
-    ensures next { IfOk result (λ r. (p : Linked) (f : Called) → shown_next p (Some f) r ≡ joined (who_at site.now (T.known texts.now)) units.now value) }
+    ensures next { IfOk result
+        (λ r. (p : Linked) (f : Called) → shown_next p (Some f) r
+        ≡ joined (who_at site.now (T.known texts.now)) units.now value) }
     ensures still { IfOk result (λ r. IsNoMove r) }
 {
     let Value::Ref(object) = value else {
@@ -123,7 +132,10 @@ pub(crate) fn concat<T: Texts>(
     object: Name,
     value: Value,
 ) -> Result<Next, NoMemory>
-    ensures next { IfOk result (λ r. (p : Linked) (f : Called) → shown_next p (Some f) r ≡ from (Wants object) (λ us. joined (who_at site.now (T.known texts.now)) us value) (T.known texts.now object)) }
+    ensures next { IfOk result
+        (λ r. (p : Linked) (f : Called) → shown_next p (Some f) r
+        ≡ from (Wants object) (λ us. joined (who_at site.now (T.known texts.now)) us value)
+        (T.known texts.now object)) }
     ensures still { IfOk result (λ r. IsNoMove r) }
 {
     match texts.text(object) {

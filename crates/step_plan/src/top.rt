@@ -54,7 +54,9 @@ fn thread_run(site: &Site<'_>) -> u32
 /// A thread that has not begun. It looks at no text.
 fn entry_plan<T: Texts>(alloc: Global, site: &Site<'_>, _texts: &T) -> Result<Plan, NoMemory>
     requires { IsKept site.now.image.now site.now.tables.now }
-    ensures { IfOk result (λ r. shown site.now.image.now (top_frame (reverse site.now.levels.now)) r ≡ entry_plan site.now.image.now (who_at site.now (T.known _texts.now))) }
+    ensures { IfOk result
+        (λ r. shown site.now.image.now (top_frame (reverse site.now.levels.now)) r
+        ≡ entry_plan site.now.image.now (who_at site.now (T.known _texts.now))) }
 {
     if site.first {
         let main = site.image.main();
@@ -82,8 +84,12 @@ fn top(levels: &[Level]) -> Option<&Level>
 fn running_plan<T: Texts>(alloc: Global, site: &Site<'_>, texts: &T) -> Result<Plan, NoMemory>
     requires kept { IsKept site.now.image.now site.now.tables.now }
     requires can { CanPlan site.now.image.now (reverse site.now.levels.now) }
-    ensures plan { IfOk result (λ r. shown site.now.image.now (top_frame (reverse site.now.levels.now)) r ≡ running_on site.now.image.now (who_at site.now (T.known texts.now)) (slice_get (reverse site.now.levels.now) 0)) }
-    ensures goes { IfOk result (λ r. GoesBy site.now.image.now (top_frame (reverse site.now.levels.now)) r.next) }
+    ensures plan { IfOk result
+        (λ r. shown site.now.image.now (top_frame (reverse site.now.levels.now)) r
+        ≡ running_on site.now.image.now (who_at site.now (T.known texts.now))
+        (slice_get (reverse site.now.levels.now) 0)) }
+    ensures goes { IfOk result
+        (λ r. GoesBy site.now.image.now (top_frame (reverse site.now.levels.now)) r.next) }
 {
     match top(site.levels) {
         None => Ok(plain(Next::Needs(Request::Finish(None)))),
@@ -95,7 +101,8 @@ fn running_plan<T: Texts>(alloc: Global, site: &Site<'_>, texts: &T) -> Result<P
 /// A thread that raises an exception.
 fn raising_plan(site: &Site<'_>, exception: Name) -> Plan
     requires { IsKept site.now.image.now site.now.tables.now }
-    ensures plan { shown site.now.image.now (top_frame (reverse site.now.levels.now)) result ≡ raising_on site.now.image.now exception (slice_get (reverse site.now.levels.now) 0) }
+    ensures plan { shown site.now.image.now (top_frame (reverse site.now.levels.now)) result
+        ≡ raising_on site.now.image.now exception (slice_get (reverse site.now.levels.now) 0) }
     ensures goes { GoesBy site.now.image.now (top_frame (reverse site.now.levels.now)) result.next }
 {
     plain(match top(site.levels) {
@@ -117,7 +124,10 @@ pub fn plan_of<T: Texts>(
 ) -> Result<Plan, NoMemory>
     requires kept { IsKept image.now tables.now }
     requires can { CanPlan image.now (reverse levels.now) }
-    ensures plan { IfOk result (λ r. shown image.now (top_frame (reverse levels.now)) r ≡ plan image.now (stepper who.now.first who.now.object who.now.base levels.now (T.known who.now.texts.now)) mode (reverse levels.now)) }
+    ensures plan { IfOk result
+        (λ r. shown image.now (top_frame (reverse levels.now)) r
+        ≡ plan image.now (stepper who.now.first who.now.object who.now.base levels.now
+        (T.known who.now.texts.now)) mode (reverse levels.now)) }
     ensures goes { IfOk result (λ r. GoesBy image.now (top_frame (reverse levels.now)) r.next) }
 {
     let site = Site {

@@ -36,7 +36,8 @@ fn handler_for(image: &Image, frame: &Frame, exception: Name) -> Option<u32>
 
 /// A frame that an exception leaves.
 fn unwinds(frame: &Frame) -> Next
-    ensures { (p : Linked) (f : Option Called) → shown_next p f result ≡ unwinds frame.now.phase frame.now.lock }
+    ensures { (p : Linked) (f : Option Called) → shown_next p f result
+        ≡ unwinds frame.now.phase frame.now.lock }
 {
     match (frame.phase, frame.lock) {
         (Phase::Body, Some(lock)) => Next::Needs(Request::Exit(lock, true)),
@@ -60,7 +61,8 @@ pub(crate) fn raises_in(image: &Image, frame: &Frame, exception: Name) -> Next
 /// An exception at the initialisation of a class.
 pub(crate) fn fails(image: &Image, class: u32, exception: Name) -> Next
     requires { IsWhole image.now }
-    ensures { result ≡ told.Needs (InitFail class (not (is_sub_of image.now.classes exception.class error))) }
+    ensures { result ≡ told.Needs
+        (InitFail class (not (is_sub_of image.now.classes exception.class error))) }
 {
     let replaced = !is_sub(image, exception.class, boot::ERROR);
     Next::Needs(Request::InitFail(class, replaced))
@@ -68,7 +70,8 @@ pub(crate) fn fails(image: &Image, class: u32, exception: Name) -> Next
 
 /// A class that its thread initialises.
 pub(crate) fn initialises(alloc: Global, site: &Site<'_>, class: u32, begun: bool) -> Plan
-    ensures { (known : Named → Option (Items ℕ)) → shown site.now.image.now None result ≡ init_plan site.now.image.now (who_at site.now known) class begun }
+    ensures { (known : Named → Option (Items ℕ)) → shown site.now.image.now None result
+        ≡ init_plan site.now.image.now (who_at site.now known) class begun }
 {
     let done = Next::Needs(Request::InitDone(class));
     if begun {

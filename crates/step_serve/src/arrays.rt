@@ -52,7 +52,8 @@ fn array_count(count: u64, sizes: &[u32]) -> Option<u64>
 /// Whether no object has the name of an array of one level.
 fn level_is_new<N: Names>(names: &N, level: Level) -> bool
     requires { level.index + level.count ≤ 2 ^ 32 }
-    ensures { result ≡ all_new (N.heap names.now) level.node level.index (replicate level.count level.class) }
+    ensures { result ≡ all_new (N.heap names.now) level.node level.index
+        (replicate level.count level.class) }
 {
     for index in level.index..level.index + level.count {
         let name = Name {
@@ -71,7 +72,12 @@ fn level_is_new<N: Names>(names: &N, level: Level) -> bool
 fn next_level(image: &Image, level: Level, size: u32) -> Level
     requires few { level.count ≤ 2 ^ 32 }
     requires named { level.index + level.count ≤ 2 ^ 32 }
-    ensures { result ≡ record { node = level.node; class = part_class image.now level.class; count = level.count * size; index = level.index + level.count } }
+    ensures { result ≡ record {
+      node = level.node;
+      class = part_class image.now level.class;
+      count = level.count * size;
+      index = level.index + level.count;
+    } }
 {
     Level {
         node: level.node,
@@ -99,7 +105,8 @@ fn are_new<N: Names>(names: &N, image: &Image, level: Level, sizes: &[u32]) -> b
 /// An array of references to arrays of the level below, from the one with this index on.
 fn references(alloc: Global, below: Level, first: u64, size: u32) -> Result<ObjectBody, NoMemory>
     requires { first + size ≤ 2 ^ 32 }
-    ensures { IfOk result (λ body. body ≡ object.Array (references below.node below.class first size)) }
+    ensures { IfOk result
+        (λ body. body ≡ object.Array (references below.node below.class first size)) }
 {
     let mut elements = Vec::with_capacity(alloc, size as usize)?;
     for index in first..first + u64::from(size) {

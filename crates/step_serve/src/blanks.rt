@@ -61,7 +61,7 @@ fn own_zeros(alloc: Global, fields: &[FieldInfo]) -> Result<List<Value>, NoMemor
     let mut zeros = List::new(alloc);
     for field in fields {
         if !has_flag(field.flags, STATIC) {
-            zeros.push(zero_of(&field.desc))?;
+            zeros.push(zero_of(field.desc.get()))?;
         }
     }
     Ok(zeros)

@@ -35,7 +35,8 @@ pub(crate) fn count_value(count: usize) -> Value
 
 /// A field is read; one that isn't there isn't served.
 fn get_field(wish: Wish, place: u32, fields: &[Value]) -> Option<Served>
-    ensures { (heap : Heap) (n : AnyName) → TellsOf heap wish (λ c. get n place (Some (object.Fields fields.now))) result }
+    ensures { (heap : Heap) (n : AnyName)
+        → TellsOf heap wish (λ c. get n place (Some (object.Fields fields.now))) result }
 {
     match fields.get(place as usize) {
         Some(value) => Some(quiet(wish, Some(*value))),
@@ -45,7 +46,8 @@ fn get_field(wish: Wish, place: u32, fields: &[Value]) -> Option<Served>
 
 /// A field is read; what has none isn't served.
 pub(crate) fn get(wish: Wish, place: u32, body: Option<BodyRef<'_>>) -> Option<Served>
-    ensures { (heap : Heap) (n : AnyName) → TellsOf heap wish (λ c. get n place (option_map lent_body body.entry)) result }
+    ensures { (heap : Heap) (n : AnyName)
+        → TellsOf heap wish (λ c. get n place (option_map lent_body body.entry)) result }
 {
     match body {
         Some(body) => match body {
@@ -64,7 +66,8 @@ pub(crate) fn put(
     value: Value,
     body: Option<BodyRef<'_>>,
 ) -> Option<Served>
-    ensures { (heap : Heap) → TellsOf heap wish (λ c. put name place value (option_map lent_body body.entry)) result }
+    ensures { (heap : Heap)
+        → TellsOf heap wish (λ c. put name place value (option_map lent_body body.entry)) result }
 {
     match body {
         Some(BodyRef::Fields(fields)) if (place as usize) < fields.len() => {
@@ -93,7 +96,8 @@ fn load_element<N: Names>(
     elements: &[Value],
 ) -> Result<Served, NoMemory>
     requires { AreBlanks server.now.image.now server.now.blanks.now }
-    ensures { IfOk result (λ s. (n : AnyName) → TellsSome (N.heap server.now.names.now) server.now.wish
+    ensures { IfOk result
+        (λ s. (n : AnyName) → TellsSome (N.heap server.now.names.now) server.now.wish
         (load server.now.image.now s.choice.name n index (Some (object.Array elements.now))) s) }
 {
     match element_at(index, elements) {
@@ -110,7 +114,8 @@ pub(crate) fn load<N: Names>(
     body: Option<BodyRef<'_>>,
 ) -> Result<Option<Served>, NoMemory>
     requires { AreBlanks server.now.image.now server.now.blanks.now }
-    ensures { IfOk result (λ served. (n : AnyName) → TellsOf (N.heap server.now.names.now) server.now.wish
+    ensures { IfOk result
+        (λ served. (n : AnyName) → TellsOf (N.heap server.now.names.now) server.now.wish
         (λ c. load server.now.image.now c.name n index (option_map lent_body body.entry)) served) }
 {
     match body {
@@ -220,7 +225,8 @@ pub(crate) fn counted(wish: Wish, count: usize) -> Served
 
 /// The length of an array.
 pub(crate) fn len(wish: Wish, body: Option<BodyRef<'_>>) -> Option<Served>
-    ensures { (heap : Heap) → TellsOf heap wish (λ c. len (option_map lent_body body.entry)) result }
+    ensures { (heap : Heap)
+        → TellsOf heap wish (λ c. len (option_map lent_body body.entry)) result }
 {
     match body {
         Some(body) => match body {

@@ -38,7 +38,8 @@ fn by_method<N: Names>(
     units: Units,
     content: &[u16],
 ) -> Result<Served, NoMemory>
-    ensures { IfOk result (λ s. body_at (N.heap server.now.names.now) name ≡ Some (object.Text content.now)
+    ensures { IfOk result
+        (λ s. body_at (N.heap server.now.names.now) name ≡ Some (object.Text content.now)
         → Tells (N.heap server.now.names.now) server.now.wish (buffer_by s.choice.name name method units content.now) s) }
 {
     if method == NEW_BUFFER {
@@ -67,7 +68,8 @@ pub(crate) fn buffer<N: Names>(
     units: Units,
     body: Option<BodyRef<'_>>,
 ) -> Result<Option<Served>, NoMemory>
-    ensures { IfOk result (λ served. body_at (N.heap server.now.names.now) name ≡ option_map lent_body body.entry
+    ensures { IfOk result
+        (λ served. body_at (N.heap server.now.names.now) name ≡ option_map lent_body body.entry
         → TellsOf (N.heap server.now.names.now) server.now.wish
         (λ c. buffer c.name name method units (option_map lent_body body.entry)) served) }
 {

@@ -30,7 +30,8 @@ pub struct Server<'a, N> {
 
 /// The effects of an exception that is made, before a further one.
 fn fault_effects(made: Effect, more: Option<Effect>) -> Effects
-    ensures { (heap : Heap) → changes_of heap result ≡ change_of heap made ∷ map (change_of heap) (option_to_list more) }
+    ensures { (heap : Heap) → changes_of heap result ≡ change_of heap made
+        ∷ map (change_of heap) (option_to_list more) }
 {
     match more {
         None => Effects::One(made),

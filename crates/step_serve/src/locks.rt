@@ -25,7 +25,8 @@ use std::alloc::Global;
 
 /// A lock is owned so many times.
 fn own(wish: Wish, thread: u32, lock: Name, count: u32) -> Served
-    ensures { (heap : Heap) (d : Deed) → IsPlain heap (One (effect.Owned lock (owned thread count))) (Gives None) d
+    ensures { (heap : Heap) (d : Deed)
+        → IsPlain heap (One (effect.Owned lock (owned thread count))) (Gives None) d
         → Tells heap wish d result }
 {
     let held = MonitorState {
@@ -43,7 +44,8 @@ pub(crate) fn enter(
     lock: Name,
     owner: Option<MonitorState>,
 ) -> Result<Option<Served>, NoMemory>
-    ensures { IfOk result (λ served. (heap : Heap) → TellsOf heap wish (λ c. enter thread lock owner) served) }
+    ensures { IfOk result
+        (λ served. (heap : Heap) → TellsOf heap wish (λ c. enter thread lock owner) served) }
 {
     match owner {
         None => Ok(Some(own(wish, thread, lock, 1))),
@@ -55,7 +57,8 @@ pub(crate) fn enter(
 
 /// How often the thread owns the lock, if it does.
 fn owned_by(thread: u32, owner: Option<MonitorState>) -> Option<MonitorState>
-    ensures { (otherwise : Deed) (f : Monitor → Deed) → by_owner thread owner otherwise f ≡ from otherwise f result }
+    ensures { (otherwise : Deed) (f : Monitor → Deed) → by_owner thread owner otherwise f
+        ≡ from otherwise f result }
 {
     match owner {
         Some(held) if held.owner == thread => Some(held),
@@ -177,7 +180,8 @@ fn picking_choice(wish: Wish, first: u32) -> Choice
 
 /// The waiter that is picked wakes, if there is one.
 fn wake_one(wish: Wish, lock: Name, waiting: &[Waiter]) -> Served
-    ensures { (heap : Heap) → Tells heap wish (notifies lock result.choice.pick (waiters_of lock waiting.now)) result }
+    ensures { (heap : Heap)
+        → Tells heap wish (notifies lock result.choice.pick (waiters_of lock waiting.now)) result }
 {
     let first = match first_waiter(lock, waiting) {
         Some(first) => first,

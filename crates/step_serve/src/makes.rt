@@ -38,7 +38,8 @@ pub(crate) fn flat_body(
     class: u32,
     size: u32,
 ) -> Result<ObjectBody, NoMemory>
-    ensures { IfOk result (λ body. body ≡ object.Array (replicate size (element_zero image.now class))) }
+    ensures { IfOk result
+        (λ body. body ≡ object.Array (replicate size (element_zero image.now class))) }
 {
     let mut elements = Vec::new(alloc);
     elements.resize(size as usize, element_zero(image, class))?;

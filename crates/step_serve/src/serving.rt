@@ -46,7 +46,8 @@ fn serve_making<N: Names>(
     request: Request,
 ) -> Result<Option<Served>, NoMemory>
     requires { AreBlanks server.now.image.now server.now.blanks.now }
-    ensures { IfOk result (λ served. key_of request ≡ Nowhere → TellsOf (N.heap server.now.names.now) server.now.wish
+    ensures { IfOk result
+        (λ served. key_of request ≡ Nowhere → TellsOf (N.heap server.now.names.now) server.now.wish
         (λ c. serve server.now.image.now (wish_thread server.now.wish) c request NoCell) served) }
 {
     match request {
@@ -66,7 +67,8 @@ fn serve_body<N: Names>(
     body: Option<BodyRef<'_>>,
 ) -> Result<Option<Served>, NoMemory>
     requires { AreBlanks server.now.image.now server.now.blanks.now }
-    ensures { IfOk result (λ served. IsBodyOf (N.heap server.now.names.now) request (option_map lent_body body.entry)
+    ensures { IfOk result
+        (λ served. IsBodyOf (N.heap server.now.names.now) request (option_map lent_body body.entry)
         → TellsOf (N.heap server.now.names.now) server.now.wish
         (λ c. serve server.now.image.now (wish_thread server.now.wish) c request (Body (option_map lent_body body.entry))) served) }
 {
@@ -92,7 +94,9 @@ fn serve_lock<N: Names>(
     waiting: &[Waiter],
 ) -> Result<Option<Served>, NoMemory>
     requires { AreBlanks server.now.image.now server.now.blanks.now }
-    ensures { IfOk result (λ served. (n : Named) → key_of request.now ≡ OfLock n → TellsOf (N.heap server.now.names.now) server.now.wish
+    ensures { IfOk result
+        (λ served. (n : Named) → key_of request.now ≡ OfLock n
+        → TellsOf (N.heap server.now.names.now) server.now.wish
         (λ c. serve server.now.image.now (wish_thread server.now.wish) c request.now (Lock owner (waiters_of n waiting.now))) served) }
 {
     let wish = server.wish;
@@ -118,7 +122,9 @@ fn serve_class<N: Names>(
     state: Option<ClassState>,
 ) -> Result<Option<Served>, NoMemory>
     requires { AreBlanks server.now.image.now server.now.blanks.now }
-    ensures { IfOk result (λ served. (k : ℕ) → key_of request.now ≡ OfClass k → TellsOf (N.heap server.now.names.now) server.now.wish
+    ensures { IfOk result
+        (λ served. (k : ℕ) → key_of request.now ≡ OfClass k
+        → TellsOf (N.heap server.now.names.now) server.now.wish
         (λ c. serve server.now.image.now (wish_thread server.now.wish) c request.now (Class state)) served) }
 {
     let wish = server.wish;
@@ -140,7 +146,9 @@ fn serve_thread<N: Names>(
     ended: Option<bool>,
 ) -> Result<Option<Served>, NoMemory>
     requires { AreBlanks server.now.image.now server.now.blanks.now }
-    ensures { IfOk result (λ served. (ts : List (Named × Bool)) (us : List AnyUncaught) → IsEnded ts request.now ended → TellsOf (N.heap server.now.names.now) server.now.wish
+    ensures { IfOk result
+        (λ served. (ts : List (Named × Bool)) (us : List AnyUncaught) → IsEnded ts request.now ended
+        → TellsOf (N.heap server.now.names.now) server.now.wish
         (λ c. serve server.now.image.now (wish_thread server.now.wish) c request.now (Threads ts us)) served) }
 {
     let wish = server.wish;
@@ -159,7 +167,9 @@ fn serve_console<N: Names>(
     server: &Server<N>,
     request: &Request,
 ) -> Result<Option<Served>, NoMemory>
-    ensures { IfOk result (λ served. (bytes : List ℕ) → key_of request.now ≡ OfConsole → TellsOf (N.heap server.now.names.now) server.now.wish
+    ensures { IfOk result
+        (λ served. (bytes : List ℕ) → key_of request.now ≡ OfConsole
+        → TellsOf (N.heap server.now.names.now) server.now.wish
         (λ c. serve server.now.image.now (wish_thread server.now.wish) c request.now (Console bytes)) served) }
 {
     match request {
@@ -177,7 +187,8 @@ pub fn serve<N: Names>(
     place: Cell<'_>,
 ) -> Result<Option<Served>, NoMemory>
     requires { AreBlanks server.now.image.now server.now.blanks.now }
-    ensures { IfOk result (λ served. (m : State) → m.heap ≡ N.heap server.now.names.now → IsCell m request place.entry
+    ensures { IfOk result
+        (λ served. (m : State) → m.heap ≡ N.heap server.now.names.now → IsCell m request place.entry
         → IsServing m server.now.wish
         (λ c. serve server.now.image.now (wish_thread server.now.wish) c request (cell m (key_of request))) served) }
 {

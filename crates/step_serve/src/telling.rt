@@ -33,7 +33,8 @@ fn plain_choice(wish: Wish) -> Choice
 
 /// The choice for a deed that makes one or more objects, the first one of the class.
 pub(crate) fn making_choice(wish: Wish, class: u32) -> Choice
-    ensures { (d : Deed) (cs : List ℕ) → d.makes ≡ class ∷ cs → d.waiters ≡ [] → Meets wish d result }
+    ensures { (d : Deed) (cs : List ℕ) → d.makes ≡ class ∷ cs → d.waiters ≡ []
+        → Meets wish d result }
 {
     match wish {
         Wish::Exactly(choice) => choice,
@@ -65,14 +66,16 @@ pub(crate) fn plain(wish: Wish, effects: Effects, answer: Answer) -> Served
 
 /// What is told of a deed that changes nothing: its answer, for the choice that is wished.
 pub fn quiet(wish: Wish, value: Option<Value>) -> Served
-    ensures { (heap : Heap) (d : Deed) → IsPlain heap Nothing (Gives value) d → Tells heap wish d result }
+    ensures { (heap : Heap) (d : Deed) → IsPlain heap Nothing (Gives value) d
+        → Tells heap wish d result }
 {
     plain(wish, Effects::Nothing, Answer::Gives(value))
 }
 
 /// What is told of a deed with one change.
 pub(crate) fn changing(wish: Wish, effect: Effect) -> Served
-    ensures { (heap : Heap) (d : Deed) → IsPlain heap (One effect) (Gives None) d → Tells heap wish d result }
+    ensures { (heap : Heap) (d : Deed) → IsPlain heap (One effect) (Gives None) d
+        → Tells heap wish d result }
 {
     plain(wish, Effects::One(effect), Answer::Gives(None))
 }
@@ -86,7 +89,8 @@ pub(crate) fn making<N: Names>(
     answer: Answer,
 ) -> Served
     ensures choice { result.choice ≡ choice }
-    ensures told { (wish : AnyWish) (d : Deed) → Meets wish d choice → IsMaking (N.heap names.now) class effects answer d
+    ensures told { (wish : AnyWish) (d : Deed) → Meets wish d choice
+        → IsMaking (N.heap names.now) class effects answer d
         → Tells (N.heap names.now) wish d result }
 {
     Served {

@@ -90,7 +90,8 @@ fn printed(alloc: Global, units: &[u16]) -> Result<List<u8>, NoMemory>
 
 /// A text is printed.
 pub(crate) fn print(alloc: Global, wish: Wish, units: &[u16]) -> Result<Served, NoMemory>
-    ensures { IfOk result (λ s. (heap : Heap) → Tells heap wish (changing (Printed (printed units.now) ∷ []) None) s) }
+    ensures { IfOk result
+        (λ s. (heap : Heap) → Tells heap wish (changing (Printed (printed units.now) ∷ []) None) s) }
 {
     let bytes = printed(alloc, units)?;
     Ok(changing(wish, Effect::Printed(bytes)))

@@ -4,6 +4,7 @@ use Rattle.program_image.specs.declared.image.Image.TheInside.{Inside}
 use Rattle.program_image.specs.Program.{Program}
 use Rattle.program_image.specs.Built.Ancestry.{IsAncestry}
 use Rattle.program_image.specs.Built.Members.{IsMembers}
+use Rattle.program_image.specs.Built.Names.{AreNames}
 
 -- the program that an image is
 abbrev pub program_of : Inside → Program
@@ -15,3 +16,4 @@ pub record IsBuilt (a : Inside) : Type 0 where
   pub few_methods : length a.methods < 2 ^ 32
   pub ancestry : IsAncestry a.classes a.ancestry
   pub members : IsMembers a.classes a.methods a.members
+  pub names : AreNames a.classes a.names.entries

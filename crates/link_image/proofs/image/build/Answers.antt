@@ -26,13 +26,13 @@ made all front arrays literals main classes infos methods targets contents numbe
       number_is = n;
     }
 
-pub new-requires : goal.new-requires
-new-requires c =
+pub with_signs-requires-clause-image : goal.with_signs-requires-clause-image
+with_signs-requires-clause-image c =
     let m = made c.args.resolver.now c.program-program.result.now c.args.arrays.now c.args.literals.now c.args.main c.in_ok-classes.classes c.as_slice.result.now c.in_ok-methods.methods c.in_ok-targets.targets c.in_ok-contents.contents c.method_number-number.result c.program-program.ensures c.in_ok-classes.ensures c.as_slice.ensures c.in_ok-methods.ensures c.in_ok-targets.ensures c.in_ok-contents.ensures c.method_number-number.ensures in
-    record { image = made_image c.args.resolver.now c.args.arrays.now c.args.literals.now c.args.main c.args.ranks.now c.in_ok-classes.classes c.in_ok-methods.methods c.in_ok-targets.targets c.in_ok-contents.contents c.method_number-number.result c.requires.small c.requires.fit c.requires.ranked m }
+    made_image c.args.resolver.now c.args.arrays.now c.args.literals.now c.args.main c.args.ranks.now c.in_ok-classes.classes c.in_ok-methods.methods c.in_ok-targets.targets c.in_ok-contents.contents c.method_number-number.result c.requires.small c.requires.fit c.requires.ranked m
 
 pub returns : goal.returns
 returns c =
     let m = made c.args.resolver.now c.program-program.result.now c.args.arrays.now c.args.literals.now c.args.main c.in_ok-classes.classes c.as_slice.result.now c.in_ok-methods.methods c.in_ok-targets.targets c.in_ok-contents.contents c.method_number-number.result c.program-program.ensures c.in_ok-classes.ensures c.as_slice.ensures c.in_ok-methods.ensures c.in_ok-targets.ensures c.in_ok-contents.ensures c.method_number-number.ensures in
-    ok_as c.new.result (program c.in_ok-classes.classes c.in_ok-methods.methods c.in_ok-targets.targets c.in_ok-contents.contents c.method_number-number.result) (image_of c.args.resolver.now c.args.arrays.now c.args.literals.now c.args.main)
-    (made_program c.args.resolver.now c.args.arrays.now c.args.literals.now c.args.main c.in_ok-classes.classes c.in_ok-methods.methods c.in_ok-targets.targets c.in_ok-contents.contents c.method_number-number.result m) c.new.ensures
+    ok_as c.with_signs.result (program c.in_ok-classes.classes c.in_ok-methods.methods c.in_ok-targets.targets c.in_ok-contents.contents c.method_number-number.result) (image_of c.args.resolver.now c.args.arrays.now c.args.literals.now c.args.main)
+    (made_program c.args.resolver.now c.args.arrays.now c.args.literals.now c.args.main c.in_ok-classes.classes c.in_ok-methods.methods c.in_ok-targets.targets c.in_ok-contents.contents c.method_number-number.result m) c.with_signs.ensures

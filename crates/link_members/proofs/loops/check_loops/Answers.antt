@@ -1,4 +1,4 @@
-use Rattle.std.proofs.Common.{◌≡◌, ℕ, List, Option, Some, None, subst}
+use Rattle.std.proofs.Common.{ℕ, List, subst}
 use Rattle.std.specs.Prelude.{MatchOption}
 use Rattle.hierarchy.specs.Hierarchy.{IsRanked, Under}
 use Rattle.link_members.proofs.LoopLaws.{no_loops, none_above_itself}

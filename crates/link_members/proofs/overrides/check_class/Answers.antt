@@ -7,10 +7,10 @@ use Rattle.link_members.proofs.overrides.check_class.Goals as goal
 
 pub returns : goal.returns
 returns c =
-    let entries = c.args.declarations.now.entries in
+    let names = c.args.declarations.now.names in
+    let entries = c.args.declarations.now.methods.entries in
     let f = c.args.f.now in
     let near = c.in_ok-near.near in
-    let same = ap (λ z. flat_map (bad_by entries z f) c.as_slice-2.result.now) c.as_slice.ensures
-    ∙ ap (flat_map (bad_by entries near f)) c.as_slice-2.ensures
-    ∙ refused_alike c.args.program.now entries near c.args.number f c.requires.declared c.in_ok-near.ensures in
+    let same = ap (λ z. flat_map (bad_by names entries z f) f.methods) c.as_slice.ensures
+    ∙ refused_alike c.args.program.now names entries near c.args.number f c.requires.declared c.in_ok-near.ensures in
     subst (λ z. IsAnswer z c.check_methods.result) same c.check_methods.ensures

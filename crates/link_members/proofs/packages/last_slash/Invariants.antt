@@ -1,4 +1,4 @@
-use Rattle.std.proofs.Common.{◌≡◌, ◌≤◌, ℕ, length}
+use Rattle.std.proofs.Common.{◌≡◌, ◌≤◌, length}
 use Rattle.link_rules.specs.Packages.{last_slash}
 use Rattle.link_members.proofs.packages.last_slash.Given as goal
 

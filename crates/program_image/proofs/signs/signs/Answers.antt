@@ -12,7 +12,7 @@ loop-method-preserved c =
     let i = c.loop-method.method-index in
     let m = c.method-item.result in
     let at : slice_get ms i ≡ Some m = slice_get-get_or ms i m c.loop-method-test.true ∙ ap Some (sym c.method-item.is) in
-    signs_step ms c.loop-method.names c.number.new.self c.loop-method.descs c.number-in-loop-method.new.self c.loop-method.signs c.push.new.self i m c.in_ok-name.name c.in_ok-desc.desc at c.in_ok-name.ensures.items c.in_ok-desc.ensures.items c.in_ok-push.ensures.ok c.in_ok-name.ensures.number c.in_ok-desc.ensures.number c.loop-method.invariant
+    signs_step ms c.loop-method.names c.number.new.self c.loop-method.descs c.number-in-loop-method.new.self c.loop-method.signs c.push.new.self i m c.get.result.now c.get-in-loop-method.result.now c.in_ok-name.name c.in_ok-desc.desc at c.get.ensures c.get-in-loop-method.ensures c.in_ok-name.ensures.items c.in_ok-desc.ensures.items c.in_ok-push.ensures.ok c.in_ok-name.ensures.number c.in_ok-desc.ensures.number c.loop-method.invariant
 
 pub returns : goal.returns
 returns c = let n : length c.args.methods.now ≡ c.loop-method.method-index = (let a = c.loop-method-test.false in let b = c.loop-method.auto.method-index-end in omega arith) in signs_all c.args.methods.now c.loop-method.names c.loop-method.descs c.loop-method.signs c.loop-method.method-index n c.loop-method.invariant

@@ -1,4 +1,4 @@
-use Rattle.std.proofs.Common.{◌≡◌, sym, arith, length, ◌==◌, ◌&&◌}
+use Rattle.std.proofs.Common.{arith, length, ◌&&◌}
 use Rattle.shared_types.specs.Trees.{types, is_sized}
 use Rattle.shared_types.proofs.Laws.{get_right, counted}
 use Rattle.shared_types.proofs.tree.Tree.+get.Goals as goal

@@ -1,6 +1,6 @@
-use Rattle.std.proofs.Common.{◌∙◌, ap, ◌≡◌, slice_get, Some, slice_set}
+use Rattle.std.proofs.Common.{◌∙◌}
 use Rattle.std.proofs.lemmas.Option.{slice_get-get_or}
-use Rattle.shared_types.proofs.Laws.{begun, begun_more}
+use Rattle.shared_types.proofs.Laws.{begun_more}
 use Rattle.shared_types.proofs.types.Types.from_list.Goals as goal
 
 pub loop-i-preserved : goal.loop-i-preserved

@@ -1,8 +1,0 @@
-use Rattle.std.proofs.Common.{◌≡◌, drop}
-use Rattle.std.specs.List.{flat_map}
-use Rattle.link_members.specs.Declarations.{bad_by}
-use Rattle.link_members.proofs.overrides.check_methods.Given as goal
-
-abbrev pub invariant-loop-method : goal.invariant-loop-method
-invariant-loop-method l =
-    flat_map (bad_by l.declarations.entries l.near l.f) l.methods ≡ flat_map (bad_by l.declarations.entries l.near l.f) (drop l.method-index l.methods)

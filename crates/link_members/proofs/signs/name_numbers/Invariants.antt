@@ -1,0 +1,7 @@
+use Rattle.std.proofs.Common.{◌≡◌, length}
+use Rattle.link_members.specs.Signs.{name_number}
+use Rattle.link_members.specs.Told.{AreTold}
+use Rattle.link_members.proofs.signs.name_numbers.Given as goal
+
+abbrev pub invariant-loop-index : goal.invariant-loop-index
+invariant-loop-index l = (length l.told ≡ l.index) × AreTold (name_number l.names) l.pool l.told
