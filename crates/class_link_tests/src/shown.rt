@@ -5,7 +5,7 @@
 ghost use Rattle.std.specs.Prelude.{◌<◌, length};
 
 use crate::builder::ascii;
-use jvm_base::{Elem, MethodDesc, NoMemory};
+use jvm_base::{Elem, MethodDesc, NoMemory, Units};
 use program_image::{Body, ClassInfo, FieldInfo, Image, MethodInfo};
 use std::alloc::Global;
 
@@ -70,7 +70,8 @@ fn push_class(
     number: u32,
     class: &ClassInfo,
 ) -> Result<(), NoMemory> {
-    let name = ascii(alloc, &class.name)?;
+    let name = Units::from_slice(alloc, class.name.as_slice())?;
+    let name = ascii(alloc, &name)?;
     let (flags, over, clinit) = (class.flags, class.super_class, class.clinit);
     let (above, methods) = (class.interfaces.as_slice(), class.methods.as_slice());
     let line = format!(in alloc;
@@ -81,7 +82,7 @@ fn push_class(
         let part = array.part;
         let line = format!(in alloc; "array {part:?} ")?;
         words.push_str(line.as_str())?;
-        push_desc(alloc, words, array.dims, &array.elem)?;
+        push_desc(alloc, words, array.dims, array.elem.get())?;
         words.push('\n')?;
     }
     Ok(())

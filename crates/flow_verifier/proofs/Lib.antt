@@ -2,10 +2,14 @@ pub mod Rules
 pub mod Fitting
 pub mod Sharing
 pub mod Places
+pub mod RangeLaws
 pub mod GivenLaws
 pub mod Worklist
 pub mod PotentialLaws
+pub mod Leads
+pub mod CatchLaws
 pub mod Ways
 pub mod Visits
+pub mod Throwing
 pub mod Turns
 pub mod Verdict

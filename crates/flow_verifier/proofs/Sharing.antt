@@ -1,5 +1,5 @@
 -- Stacks that meet, by the types above them.
-use Rattle.std.proofs.Common.{◌≡◌, ap, suc, refl, arith, ℕ, true, false, List, [], ◌∷◌, length, Option, Some, None, inl, inr}
+use Rattle.std.proofs.Common.{◌≡◌, refl, arith, ℕ, true, false, List, [], ◌∷◌, length, Option, Some, None, inl, inr}
 use Rattle.std.proofs.lemmas.Bool.{cases_Bool}
 use Rattle.flow_types.specs.Types.{joined}
 use Rattle.flow_types.specs.declared.flow_type.FlowType.{FlowType}

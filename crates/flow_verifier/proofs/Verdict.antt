@@ -11,12 +11,7 @@ use Rattle.flow_verifier.specs.Methods.{ops_of, IsMethod}
 use Rattle.flow_verifier.specs.Given.{broken}
 use Rattle.flow_verifier.specs.Typing.{frame_at, IsLeast, IsTyping, IsBroken, rule_of, NoneBroken, IsFirst}
 use Rattle.flow_verifier.proofs.Rules.{none_is_empty}
-use Rattle.flow_verifier.proofs.Worklist.{no-typing}
-
-has-place : (fs : List (Option FlowFrame)) (i : ℕ) (f : FlowFrame) → frame_at fs i ≡ Some f → i < length fs
-has-place [] i f e = absurd cc
-has-place (x ∷ xs) zero f e = omega arith
-has-place (x ∷ xs) (suc i) f e = let h : i < length xs = has-place xs i f e in omega arith
+use Rattle.flow_verifier.proofs.Worklist.{has-place, no-typing}
 
 placed-at : (xs : List Placed) (i : ℕ) → i < length xs → (o : Placed) × (slice_get xs i ≡ Some o)
 placed-at [] i l = absurd (omega arith)

@@ -1,9 +1,8 @@
 -- What flows from an instruction that is visited, way by way.
-use Rattle.std.proofs.Common.{refl, ◌∙◌, sym, ap, ◌≡◌, subst, ℕ, zero, suc, ◌+◌, ◌<◌, ◌≤◌, Bool, true, false, List, [], ◌∷◌, ◌++◌, length, slice_get, slice_set, Option, Some, None, Result, Ok, Err, ◌⊎◌, inl, inr, arith}
+use Rattle.std.proofs.Common.{refl, ◌∙◌, sym, ap, ◌≡◌, subst, ℕ, ◌+◌, ◌<◌, ◌≤◌, Bool, true, false, List, [], ◌∷◌, ◌++◌, length, slice_get, slice_set, Option, Some, None, Result, Ok, Err, ◌⊎◌, inl, inr, arith}
 use Rattle.std.specs.Prelude.{OnOk, get_or}
 use Rattle.std.proofs.lemmas.Option.{slice_get-get_or}
 use Rattle.std.specs.Bool.{MatchBool}
-use Rattle.std.specs.List.{list_any}
 use Rattle.flow_types.specs.Tree.{superclasses, IsTree}
 use Rattle.flow_types.specs.Frames.{clash_frame, frame_of, Room, IsFrame}
 use Rattle.flow_types.specs.declared.flow_type.FlowType.{FlowType}
@@ -12,19 +11,22 @@ use Rattle.flow_types.specs.declared.flow_frame.FlowFrame.{FlowFrame}
 use Rattle.flow_types.proofs.FrameLaws.{frame-kind}
 use Rattle.program_image.specs.Program.{Program}
 use Rattle.flow_verifier.specs.declared.method.Method.{Method}
-use Rattle.flow_verifier.specs.declared.method.Edge.{Edge}
 use Rattle.flow_verifier.specs.declared.method.Edge.TheVariants.{Next, Caught}
 use Rattle.flow_verifier.specs.declared.rising.Rising.{Rising}
 use Rattle.flow_verifier.specs.declared.visit.Visit.{Visit}
 use Rattle.flow_verifier.specs.Methods.{room_of, IsMethod}
-use Rattle.flow_verifier.specs.Given.{given, target, edges, is_caught}
+use Rattle.flow_verifier.specs.Given.{given, edges}
 use Rattle.flow_verifier.specs.Typing.{frame_at}
 use Rattle.flow_verifier.specs.Flowing.{Flows, IsAlike}
-use Rattle.flow_verifier.specs.Going.{IsFlagged, IsGoing, IsPartly, IsMarked, IsCatcher, IsFlowing, IsPut, IsVisiting}
+use Rattle.flow_verifier.specs.Leading.{successors, ways_caught}
+use Rattle.flow_verifier.specs.Catching.{IsCatching}
+use Rattle.flow_verifier.specs.Going.{IsFlagged, IsGoing, IsPartly, IsTakenOff, IsMarked, IsCatcher, IsFlowing, IsPut, IsVisiting}
 use Rattle.flow_verifier.specs.Potential.{potential}
 use Rattle.flow_verifier.proofs.GivenLaws.{given-clash, given-open, given-frame, edge-is}
 use Rattle.flow_verifier.proofs.Worklist.{partly-start, partly-end, flag-set, flag-clear, flag-length}
-use Rattle.flow_verifier.proofs.Ways.{edge-target, edge-step, edge-falls, flows-at}
+use Rattle.flow_verifier.proofs.Leads.{next_way, ways_are}
+use Rattle.flow_verifier.proofs.CatchLaws.{catching_up}
+use Rattle.flow_verifier.proofs.Ways.{edge-target, edge-step, edge-rise, edge-falls, flows-at}
 
 -- ---- the flags
 
@@ -43,12 +45,6 @@ mark-less s t at h e f g = record {
 }
 
 -- ---- what handlers catch
-
-pub none_caught : (es : List Edge) (k to class : ℕ) → list_any is_caught es ≡ false → slice_get es k ≡ Some (Caught to class) → ⊥
-none_caught [] k to class h i = absurd cc
-none_caught (Next t ∷ es) zero to class h i = absurd cc
-none_caught (Next t ∷ es) (suc k) to class h i = none_caught es k to class h i
-none_caught (Caught t c ∷ es) k to class h i = absurd cc
 
 frame_with : List FlowType → List FlowType → Bool → Bool → FlowFrame
 frame_with locals stack fresh clash = record { locals = locals; stack = stack; fresh = fresh; clash = clash }
@@ -111,7 +107,7 @@ pub on_both : {T E : Type 0} (r : Result T E) (P Q R : Type 0) → OnOk r P → 
 on_both (Ok x) P Q R h g f = f h g
 on_both (Err e) P Q R h g f = tt
 
-alike-frames : (supers : List (Option ℕ)) (room : Room) (g : FlowFrame) (o : Option FlowFrame) → IsFrame supers room g → ((f : FlowFrame) → o ≡ Some f → IsFrame supers room f) → IsAlike g o
+pub alike-frames : (supers : List (Option ℕ)) (room : Room) (g : FlowFrame) (o : Option FlowFrame) → IsFrame supers room g → ((f : FlowFrame) → o ≡ Some f → IsFrame supers room f) → IsAlike g o
 alike-frames supers room g None x h = tt
 alike-frames supers room g (Some f) x h = λ p q.
     elim (frame-kind supers room g x) [
@@ -122,84 +118,63 @@ alike-frames supers room g (Some f) x h = λ p q.
       ]
     ]
 
--- the edge at a place
-pub edge-at : (es xs : List Edge) (k : ℕ) (d e : Edge) → xs ≡ es → k < length es → get_or xs k d ≡ e → slice_get es k ≡ Some e
-edge-at es xs k d e q l h = slice_get-get_or es k d l ∙ ap Some (sym (ap (λ z. get_or z k d) q) ∙ h)
-
-abbrev pub with_caught : Visit → FlowFrame → Visit
-with_caught v c = record { at = v.at; edges = v.edges; next = v.next; caught = c }
+-- the place at a place of a list
+pub place-at : (xs ys : List ℕ) (k d : ℕ) → ys ≡ xs → k < length xs → slice_get xs k ≡ Some (get_or ys k d)
+place-at xs ys k d q l = slice_get-get_or xs k d l ∙ ap (λ z. Some (get_or z k d)) (sym q)
 
 module _ (p : Program) (tree : IsTree (superclasses p)) (m : Method) (im : IsMethod p m) where
-  pub visit-start : (at : ℕ) (f : FlowFrame) (v : Visit) (s : Rising) → v.at ≡ at → IsFlowing p m f v → frame_at s.frames at ≡ Some f → IsMarked s → IsGoing p m s.frames (s.todo ++ (at ∷ [])) → IsVisiting p m v 0 s
-  visit-start at f v s e w i k g = record {
-    frame = f;
-    flowing = w;
-    partly = subst (λ z. IsPartly p m z f 0 s.frames s.todo) (sym e) (partly-start p tree m im at f s.frames s.todo g i);
-    marked = k;
-  }
+  pub visit-start : (at : ℕ) (f : FlowFrame) (v : Visit) (s : Rising) → v.at ≡ at → IsFlowing p m f v → frame_at s.frames at ≡ Some f → IsMarked s → IsCatching p m s.frames s.catches → IsTakenOff p m at (ways_caught p m at) s.frames s.todo → IsVisiting p m v 0 s
+  visit-start at f v s e w i k c g =
+      let n : ways_caught p m at + 0 ≡ ways_caught p m at = omega arith in record {
+        frame = f;
+        flowing = w;
+        partly = subst (λ z. IsPartly p m z f (ways_caught p m z + 0) s.frames s.todo) (sym e) (subst (λ z. IsPartly p m at f z s.frames s.todo) (sym n) (partly-start p tree m im at (ways_caught p m at) f s.frames s.todo g i));
+        marked = k;
+        catching = c;
+      }
 
-  way-of : (v : Visit) (k : ℕ) (e : Edge) (s : Rising) → IsVisiting p m v k s → slice_get v.edges k ≡ Some e → slice_get (edges p m v.at) k ≡ Some e
-  way-of v k e s h i = let w = h.flowing in subst (λ z. slice_get z k ≡ Some e) w.edges i
+  way-of : (v : Visit) (k to : ℕ) (s : Rising) → IsVisiting p m v k s → slice_get v.to k ≡ Some to → slice_get (edges p m v.at) (ways_caught p m v.at + k) ≡ Some (Next to)
+  way-of v k to s h i = let w = h.flowing in next_way p m v.at k to (subst (λ z. slice_get z k ≡ Some to) w.to i)
 
   -- where a way leads there is a place
-  pub visit-target : (v : Visit) (k : ℕ) (e : Edge) (s : Rising) → IsVisiting p m v k s → slice_get v.edges k ≡ Some e → target e < length s.frames
-  visit-target v k e s h i = edge-target p tree m im v.at k h.frame e s.frames s.todo h.partly (way-of v k e s h i)
-
-  -- with a frame like the one that flows there
-  visit-alike : (v : Visit) (k : ℕ) (e : Edge) (g : FlowFrame) (s : Rising) → (h : IsVisiting p m v k s) → slice_get v.edges k ≡ Some e → g ≡ given p m v.at h.frame e → IsAlike g (frame_at s.frames (target e))
-  visit-alike v k e g s h i q =
-      let w = h.partly in
-      let u = w.under in
-      let a = u.assignment in
-      subst (λ z. IsAlike z (frame_at s.frames (target e))) (sym q)
-      (alike-frames (superclasses p) (room_of m) (given p m v.at h.frame e) (frame_at s.frames (target e)) (given-frame p tree m im v.at h.frame e w.frame (edge-is p tree m im v.at k e (way-of v k e s h i))) (a.frames (target e)))
+  pub visit-target : (v : Visit) (k to : ℕ) (s : Rising) → IsVisiting p m v k s → slice_get v.to k ≡ Some to → to < length s.frames
+  visit-target v k to s h i = edge-target p tree m im v.at (ways_caught p m v.at + k) h.frame (Next to) s.frames s.todo h.partly (way-of v k to s h i)
 
   next-is : (v : Visit) (k to : ℕ) (s : Rising) → (h : IsVisiting p m v k s) → v.next ≡ given p m v.at h.frame (Next to)
   next-is v k to s h = let w = h.flowing in w.next to
 
-  caught-is : (v : Visit) (k to class : ℕ) (d : FlowFrame) (s : Rising) → (h : IsVisiting p m v k s) → slice_get v.edges k ≡ Some (Caught to class) → IsPut v.caught d class → d ≡ given p m v.at h.frame (Caught to class)
-  caught-is v k to class d s h i q = let w = h.flowing in put-gives p m v.at to class h.frame v.caught d (w.caught k to class i) q
+  -- with a frame like the one that flows there
+  pub next-alike : (v : Visit) (k to : ℕ) (s : Rising) → IsVisiting p m v k s → slice_get v.to k ≡ Some to → IsAlike v.next (frame_at s.frames to)
+  next-alike v k to s h i =
+      let w = h.partly in
+      let u = w.under in
+      let a = u.assignment in
+      subst (λ z. IsAlike z (frame_at s.frames to)) (sym (next-is v k to s h))
+      (alike-frames (superclasses p) (room_of m) (given p m v.at h.frame (Next to)) (frame_at s.frames to) (given-frame p tree m im v.at h.frame (Next to) w.frame (edge-is p tree m im v.at (ways_caught p m v.at + k) (Next to) (way-of v k to s h i))) (a.frames to))
 
-  pub next-alike : (v : Visit) (k to : ℕ) (s : Rising) → IsVisiting p m v k s → slice_get v.edges k ≡ Some (Next to) → IsAlike v.next (frame_at s.frames to)
-  next-alike v k to s h i = visit-alike v k (Next to) v.next s h i (next-is v k to s h)
-
-  pub caught-alike : (v : Visit) (k to class : ℕ) (d : FlowFrame) (s : Rising) → IsVisiting p m v k s → slice_get v.edges k ≡ Some (Caught to class) → IsPut v.caught d class → IsAlike d (frame_at s.frames to)
-  caught-alike v k to class d s h i q = visit-alike v k (Caught to class) d s h i (caught-is v k to class d s h i q)
+  next-flows : (v : Visit) (k to : ℕ) (s t : Rising) → (h : IsVisiting p m v k s) → Flows (superclasses p) v.next to s.frames s.todo t.frames t.todo → Flows (superclasses p) (given p m v.at h.frame (Next to)) to s.frames s.todo t.frames t.todo
+  next-flows v k to s t h w = flows-at (superclasses p) v.next (given p m v.at h.frame (Next to)) to to s.frames t.frames s.todo t.todo (next-is v k to s h) refl w
 
   -- one way more
-  pub next-step : (v : Visit) (k to : ℕ) (s t : Rising) → IsVisiting p m v k s → slice_get v.edges k ≡ Some (Next to) → Flows (superclasses p) v.next to s.frames s.todo t.frames t.todo → IsMarked t → IsVisiting p m v (k + 1) t
-  next-step v k to s t h i w n = record {
-    frame = h.frame;
-    flowing = h.flowing;
-    partly = edge-step p tree m im v.at k h.frame (Next to) s.frames t.frames s.todo t.todo h.partly (way-of v k (Next to) s h i) (flows-at (superclasses p) v.next (given p m v.at h.frame (Next to)) to to s.frames t.frames s.todo t.todo (next-is v k to s h) refl w);
-    marked = n;
-  }
-
-  pub caught-step : (v : Visit) (k to class : ℕ) (d : FlowFrame) (s t : Rising) → IsVisiting p m v k s → slice_get v.edges k ≡ Some (Caught to class) → IsPut v.caught d class → Flows (superclasses p) d to s.frames s.todo t.frames t.todo → IsMarked t → IsVisiting p m (with_caught v d) (k + 1) t
-  caught-step v k to class d s t h i q w n =
-      let x = h.flowing in record {
+  pub next-step : (v : Visit) (k to : ℕ) (s t : Rising) → IsVisiting p m v k s → slice_get v.to k ≡ Some to → Flows (superclasses p) v.next to s.frames s.todo t.frames t.todo → IsMarked t → t.catches ≡ s.catches → IsVisiting p m v (k + 1) t
+  next-step v k to s t h i w n c =
+      let one : ways_caught p m v.at + k + 1 ≡ ways_caught p m v.at + (k + 1) = omega arith in record {
         frame = h.frame;
-        flowing = record {
-          edges = x.edges;
-          next = x.next;
-          caught = λ j to' class' e. put-stays class h.frame v.caught d (x.caught j to' class' e) q;
-        };
-        partly = edge-step p tree m im v.at k h.frame (Caught to class) s.frames t.frames s.todo t.todo h.partly (way-of v k (Caught to class) s h i) (flows-at (superclasses p) d (given p m v.at h.frame (Caught to class)) to to s.frames t.frames s.todo t.todo (caught-is v k to class d s h i q) refl w);
+        flowing = h.flowing;
+        partly = subst (λ z. IsPartly p m v.at h.frame z t.frames t.todo) one (edge-step p tree m im v.at (ways_caught p m v.at + k) h.frame (Next to) s.frames t.frames s.todo t.todo h.partly (way-of v k to s h i) (next-flows v k to s t h w));
         marked = n;
+        catching = subst (λ z. IsCatching p m t.frames z) (sym c) (catching_up p tree m im s.frames t.frames s.catches (edge-rise p tree m im v.at (ways_caught p m v.at + k) h.frame (Next to) s.frames t.frames s.todo t.todo h.partly (way-of v k to s h i) (next-flows v k to s t h w)) h.catching);
       }
 
   -- the potential doesn't rise
-  pub next-falls : (v : Visit) (k to : ℕ) (s t : Rising) → IsVisiting p m v k s → slice_get v.edges k ≡ Some (Next to) → Flows (superclasses p) v.next to s.frames s.todo t.frames t.todo → (w : ℕ → ℕ) → potential p m w t.frames t.todo ≤ potential p m w s.frames s.todo
+  pub next-falls : (v : Visit) (k to : ℕ) (s t : Rising) → IsVisiting p m v k s → slice_get v.to k ≡ Some to → Flows (superclasses p) v.next to s.frames s.todo t.frames t.todo → (w : ℕ → ℕ) → potential p m w t.frames t.todo ≤ potential p m w s.frames s.todo
   next-falls v k to s t h i w =
-      edge-falls p tree m im v.at k h.frame (Next to) s.frames t.frames s.todo t.todo h.partly (way-of v k (Next to) s h i) (flows-at (superclasses p) v.next (given p m v.at h.frame (Next to)) to to s.frames t.frames s.todo t.todo (next-is v k to s h) refl w)
-
-  pub caught-falls : (v : Visit) (k to class : ℕ) (d : FlowFrame) (s t : Rising) → IsVisiting p m v k s → slice_get v.edges k ≡ Some (Caught to class) → IsPut v.caught d class → Flows (superclasses p) d to s.frames s.todo t.frames t.todo → (w : ℕ → ℕ) → potential p m w t.frames t.todo ≤ potential p m w s.frames s.todo
-  caught-falls v k to class d s t h i q w =
-      edge-falls p tree m im v.at k h.frame (Caught to class) s.frames t.frames s.todo t.todo h.partly (way-of v k (Caught to class) s h i) (flows-at (superclasses p) d (given p m v.at h.frame (Caught to class)) to to s.frames t.frames s.todo t.todo (caught-is v k to class d s h i q) refl w)
+      edge-falls p tree m im v.at (ways_caught p m v.at + k) h.frame (Next to) s.frames t.frames s.todo t.todo h.partly (way-of v k to s h i) (next-flows v k to s t h w)
 
   -- once it has gone along all ways
-  pub visit-end : (v : Visit) (k : ℕ) (s : Rising) → IsVisiting p m v k s → length v.edges ≤ k → IsGoing p m s.frames s.todo
+  pub visit-end : (v : Visit) (k : ℕ) (s : Rising) → IsVisiting p m v k s → length v.to ≤ k → IsGoing p m s.frames s.todo
   visit-end v k s h l =
       let w = h.flowing in
-      let e : length v.edges ≡ length (edges p m v.at) = ap length w.edges in
-      partly-end p tree m im v.at k h.frame s.frames s.todo h.partly (omega arith)
+      let e : length v.to ≡ length (successors p m v.at) = ap length w.to in
+      let n : length (edges p m v.at) ≡ ways_caught p m v.at + length (successors p m v.at) = ways_are p m v.at in
+      partly-end p tree m im v.at (ways_caught p m v.at + k) h.frame s.frames s.todo h.partly (omega arith)

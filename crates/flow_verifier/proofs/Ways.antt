@@ -10,11 +10,11 @@ use Rattle.flow_verifier.specs.declared.method.Edge.TheVariants.{Next, Caught}
 use Rattle.flow_verifier.specs.Methods.{ops_of, IsMethod}
 use Rattle.flow_verifier.specs.Given.{given, target, edges}
 use Rattle.flow_verifier.proofs.GivenLaws.{given-frame, IsEdge, edge-is}
-use Rattle.flow_verifier.specs.Typing.{frame_at}
+use Rattle.flow_verifier.specs.Typing.{frame_at, FitsThere}
 use Rattle.flow_verifier.specs.Going.{In, IsPartly}
 use Rattle.flow_verifier.specs.Flowing.{Flows, Rose, stays, rises, waits}
 use Rattle.flow_verifier.specs.Potential.{potential}
-use Rattle.flow_verifier.proofs.Worklist.{flow, partly-step}
+use Rattle.flow_verifier.proofs.Worklist.{IsFlow, flow, partly-step}
 use Rattle.flow_verifier.proofs.PotentialLaws.{flow-falls}
 
 pub on_ok : {T E : Type 0} (r : Result T E) (P Q : Type 0) → OnOk r P → (P → Q) → OnOk r Q
@@ -56,9 +56,17 @@ module _ (program : Program) (tree : IsTree (superclasses program)) (m : Method)
       let a : target e < length (ops_of program m.number) = target-inside (superclasses program) (length (ops_of program m.number)) e (edge-is program tree m im at j e i) in
       let b : length fs ≡ length (ops_of program m.number) = p.under.assignment.long in omega arith
 
+  edge-flow : (at j : ℕ) (f : FlowFrame) (e : Edge) (fs gs : List (Option FlowFrame)) (todo more : List ℕ) → IsPartly program m at f j fs todo → slice_get (edges program m at) j ≡ Some e → Flows (superclasses program) (given program m at f e) (target e) fs todo gs more → IsFlow program tree m im (given program m at f e) (target e) fs todo gs more
+  edge-flow at j f e fs gs todo more p i w =
+      flow program tree m im (given program m at f e) (target e) fs todo gs more (edge-target at j f e fs todo p i) p.under.assignment (given-frame program tree m im at f e p.frame (edge-is program tree m im at j e i)) w
+
+  -- frames only rise
+  pub edge-rise : (at j : ℕ) (f : FlowFrame) (e : Edge) (fs gs : List (Option FlowFrame)) (todo more : List ℕ) → IsPartly program m at f j fs todo → slice_get (edges program m at) j ≡ Some e → Flows (superclasses program) (given program m at f e) (target e) fs todo gs more → (i : ℕ) → FitsThere (superclasses program) (frame_at fs i) (frame_at gs i)
+  edge-rise at j f e fs gs todo more p i w = let r = edge-flow at j f e fs gs todo more p i w in r.rise
+
   pub edge-step : (at j : ℕ) (f : FlowFrame) (e : Edge) (fs gs : List (Option FlowFrame)) (todo more : List ℕ) → IsPartly program m at f j fs todo → slice_get (edges program m at) j ≡ Some e → Flows (superclasses program) (given program m at f e) (target e) fs todo gs more → IsPartly program m at f (j + 1) gs more
   edge-step at j f e fs gs todo more p i w =
-      rw add-one (partly-step program tree m im at j f e fs gs todo more p i (flow program tree m im (given program m at f e) (target e) fs todo gs more (edge-target at j f e fs todo p i) p.under.assignment (given-frame program tree m im at f e p.frame (edge-is program tree m im at j e i)) w))
+      rw add-one (partly-step program tree m im at j f e fs gs todo more p i (edge-flow at j f e fs gs todo more p i w))
 
   pub edge-falls : (at j : ℕ) (f : FlowFrame) (e : Edge) (fs gs : List (Option FlowFrame)) (todo more : List ℕ) → IsPartly program m at f j fs todo → slice_get (edges program m at) j ≡ Some e → Flows (superclasses program) (given program m at f e) (target e) fs todo gs more → (w : ℕ → ℕ) → potential program m w gs more ≤ potential program m w fs todo
   edge-falls at j f e fs gs todo more p i d w =

@@ -16,7 +16,7 @@ use Rattle.flow_verifier.specs.Given.{given, target, edges}
 use Rattle.flow_verifier.proofs.GivenLaws.{given-mono}
 use Rattle.instruction_table.specs.LowestRule.{lowest}
 use Rattle.flow_verifier.specs.Typing.{frame_at, FitsPlace, FitsThere, entry_frame, IsAssignment, IsClosed, IsLeast, IsTyping, IsBroken}
-use Rattle.flow_verifier.specs.Going.{In, IsFlagged, Settled, IsGoing, IsPartly}
+use Rattle.flow_verifier.specs.Going.{In, IsFlagged, Settled, IsGoing, IsPartly, IsTakenOff}
 use Rattle.flow_verifier.specs.Flowing.{merged, Flows, stays, rises, waits}
 
 in-left : (i : ℕ) (xs ys : List ℕ) → In i xs → In i (xs ++ ys)
@@ -34,17 +34,22 @@ in-split i x [] (inr h) = absurd h
 in-split i x (y ∷ ys) (inl h) = inl (inl h)
 in-split i x (y ∷ ys) (inr h) = elim (in-split i x ys h) [ inl p ↦ inl (inr p) | inr p ↦ inr p ]
 
-get-set-same : (fs : List (Option FlowFrame)) (i : ℕ) (o : Option FlowFrame) → i < length fs → frame_at (slice_set fs i o) i ≡ o
+pub get-set-same : (fs : List (Option FlowFrame)) (i : ℕ) (o : Option FlowFrame) → i < length fs → frame_at (slice_set fs i o) i ≡ o
 get-set-same [] i o l = absurd (omega arith)
 get-set-same (x ∷ xs) zero o l = refl
 get-set-same (x ∷ xs) (suc i) o l = get-set-same xs i o (omega arith)
 
-get-set-other : (fs : List (Option FlowFrame)) (i j : ℕ) (o : Option FlowFrame) → (j ≡ i → ⊥) → frame_at (slice_set fs i o) j ≡ frame_at fs j
+pub get-set-other : (fs : List (Option FlowFrame)) (i j : ℕ) (o : Option FlowFrame) → (j ≡ i → ⊥) → frame_at (slice_set fs i o) j ≡ frame_at fs j
 get-set-other [] i j o n = refl
 get-set-other (x ∷ xs) zero zero o n = absurd (n refl)
 get-set-other (x ∷ xs) zero (suc j) o n = refl
 get-set-other (x ∷ xs) (suc i) zero o n = refl
 get-set-other (x ∷ xs) (suc i) (suc j) o n = get-set-other xs i j o (λ e. n (ap suc e))
+
+pub has-place : (fs : List (Option FlowFrame)) (i : ℕ) (f : FlowFrame) → frame_at fs i ≡ Some f → i < length fs
+has-place [] i f e = absurd cc
+has-place (x ∷ xs) zero f e = omega arith
+has-place (x ∷ xs) (suc i) f e = let h : i < length xs = has-place xs i f e in omega arith
 
 pub set-length : (fs : List (Option FlowFrame)) (i : ℕ) (o : Option FlowFrame) → length (slice_set fs i o) ≡ length fs
 set-length [] i o = refl
@@ -103,11 +108,11 @@ unfolding IsFlagged
 none-flagged queued n todo e i h = absurd (all-false n i (subst (λ z. slice_get z i ≡ Some true) e h))
 
 module _ (program : Program) (tree : IsTree (superclasses program)) (m : Method) (im : IsMethod program m) where
-  fit-up : (f g : FlowFrame) (o : Option FlowFrame) → frame_fits (superclasses program) f g ≡ true → FitsPlace (superclasses program) g o → FitsPlace (superclasses program) f o
+  pub fit-up : (f g : FlowFrame) (o : Option FlowFrame) → frame_fits (superclasses program) f g ≡ true → FitsPlace (superclasses program) g o → FitsPlace (superclasses program) f o
   fit-up f g None h p = p
   fit-up f g (Some x) h p = frame-trans (superclasses program) tree (room_of m) f g x h p
 
-  place-up : (f : FlowFrame) (o p : Option FlowFrame) → FitsPlace (superclasses program) f o → FitsThere (superclasses program) o p → FitsPlace (superclasses program) f p
+  pub place-up : (f : FlowFrame) (o p : Option FlowFrame) → FitsPlace (superclasses program) f o → FitsThere (superclasses program) o p → FitsPlace (superclasses program) f p
   place-up f None p h g = absurd h
   place-up f (Some x) p h g = fit-up f x p h g
 
@@ -124,11 +129,11 @@ module _ (program : Program) (tree : IsTree (superclasses program)) (m : Method)
   merged-left None g h x = tt
   merged-left (Some f) g h x = join-left (superclasses program) tree (room_of m) f g (h f refl) x
 
-  merged-right : (o : Option FlowFrame) (g : FlowFrame) → ((f : FlowFrame) → o ≡ Some f → IsFrame (superclasses program) (room_of m) f) → IsFrame (superclasses program) (room_of m) g → frame_fits (superclasses program) g (merged (superclasses program) o g) ≡ true
+  pub merged-right : (o : Option FlowFrame) (g : FlowFrame) → ((f : FlowFrame) → o ≡ Some f → IsFrame (superclasses program) (room_of m) f) → IsFrame (superclasses program) (room_of m) g → frame_fits (superclasses program) g (merged (superclasses program) o g) ≡ true
   merged-right None g h x = frame-refl (superclasses program) tree (room_of m) g
   merged-right (Some f) g h x = join-right (superclasses program) tree (room_of m) f g (h f refl) x
 
-  merged-least : (o : Option FlowFrame) (g : FlowFrame) (p : Option FlowFrame) → ((f : FlowFrame) → p ≡ Some f → IsFrame (superclasses program) (room_of m) f) → FitsThere (superclasses program) o p → FitsPlace (superclasses program) g p → FitsPlace (superclasses program) (merged (superclasses program) o g) p
+  pub merged-least : (o : Option FlowFrame) (g : FlowFrame) (p : Option FlowFrame) → ((f : FlowFrame) → p ≡ Some f → IsFrame (superclasses program) (room_of m) f) → FitsThere (superclasses program) o p → FitsPlace (superclasses program) g p → FitsPlace (superclasses program) (merged (superclasses program) o g) p
   merged-least o g None h a b = absurd b
   merged-least None g (Some u) h a b = b
   merged-least (Some f) g (Some u) h a b = join-least (superclasses program) tree (room_of m) f g u (h u refl) a b
@@ -191,44 +196,63 @@ module _ (program : Program) (tree : IsTree (superclasses program)) (m : Method)
       rose g to fs todo gs more l a x e (λ i k. subst (λ z. In i z) (sym f) k) (subst (λ z. In to z) (sym f) h)
 
   -- what an instruction below a closed assignment gives is below it
-  given-below : (at j : ℕ) (f : FlowFrame) (e : Edge) (hs : List (Option FlowFrame)) → IsFrame (superclasses program) (room_of m) f → IsClosed program m hs → slice_get (edges program m at) j ≡ Some e → (o : Option FlowFrame) → frame_at hs at ≡ o → FitsPlace (superclasses program) f o → FitsPlace (superclasses program) (given program m at f e) (frame_at hs (target e))
+  pub given-below : (at j : ℕ) (f : FlowFrame) (e : Edge) (hs : List (Option FlowFrame)) → IsFrame (superclasses program) (room_of m) f → IsClosed program m hs → slice_get (edges program m at) j ≡ Some e → (o : Option FlowFrame) → frame_at hs at ≡ o → FitsPlace (superclasses program) f o → FitsPlace (superclasses program) (given program m at f e) (frame_at hs (target e))
   given-below at j f e hs x c i None q h = absurd h
   given-below at j f e hs x c i (Some u) q h =
       fit-up (given program m at f e) (given program m at u e) (frame_at hs (target e)) (given-mono program tree m im at f u e x (c.assignment.frames at u q) h) (c.each at j u e q i)
 
-  pub partly-start : (at : ℕ) (f : FlowFrame) (fs : List (Option FlowFrame)) (todo : List ℕ) → IsGoing program m fs (todo ++ (at ∷ [])) → frame_at fs at ≡ Some f → IsPartly program m at f 0 fs todo
-  partly-start at f fs todo g e = record {
+  -- a place is taken off the list
+  pub off-start : (at : ℕ) (fs : List (Option FlowFrame)) (todo : List ℕ) → IsGoing program m fs (todo ++ (at ∷ [])) → IsTakenOff program m at 0 fs todo
+  off-start at fs todo g = record {
     under = g.under;
-    frame = g.under.assignment.frames at f e;
-    base = rw e (frame-refl (superclasses program) tree (room_of m) f);
     others = λ i n. elim (g.rest i) [
       | inl h ↦ elim (in-split i at todo h) [ inl p ↦ inl p | inr p ↦ absurd (n p) ]
       | inr h ↦ inr h
     ];
-    own = inr (e, λ k e' l i. absurd (omega arith));
+    own = inr (λ k f e' l i h. absurd (omega arith));
   }
 
-  pub skip : (at : ℕ) (fs : List (Option FlowFrame)) (todo : List ℕ) → IsGoing program m fs (todo ++ (at ∷ [])) → frame_at fs at ≡ None → IsGoing program m fs todo
-  skip at fs todo g e = record {
+  pub partly-start : (at j : ℕ) (f : FlowFrame) (fs : List (Option FlowFrame)) (todo : List ℕ) → IsTakenOff program m at j fs todo → frame_at fs at ≡ Some f → IsPartly program m at f j fs todo
+  partly-start at j f fs todo g e = record {
     under = g.under;
-    rest = λ i. elim (g.rest i) [
-      | inl h ↦ elim (in-split i at todo h) [
-        | inl p ↦ inl p
-        | inr p ↦ inr (λ k f e' q r. let s : frame_at fs at ≡ Some f = subst (λ z. frame_at fs z ≡ Some f) p q in absurd cc)
-      ]
-      | inr h ↦ inr h
+    frame = g.under.assignment.frames at f e;
+    base = rw e (frame-refl (superclasses program) tree (room_of m) f);
+    others = g.others;
+    own = elim g.own [ inl h ↦ inl h | inr h ↦ inr (e, λ k e' l i. h k f e' l e i) ];
+  }
+
+  pub partly-off : (at j : ℕ) (f : FlowFrame) (fs : List (Option FlowFrame)) (todo : List ℕ) → IsPartly program m at f j fs todo → IsTakenOff program m at j fs todo
+  partly-off at j f fs todo p = record {
+    under = p.under;
+    others = p.others;
+    own = elim p.own [
+      | inl h ↦ inl h
+      | inr h ↦ inr (λ k g e l r s.
+          let t : Some g ≡ Some f = sym r ∙ h.0 in let u : f ≡ g = cc in
+          subst (λ z. FitsPlace (superclasses program) (given program m at z e) (frame_at fs (target e))) u ((h.1) k e l s))
+    ];
+  }
+
+  -- a place without a frame gives nothing
+  pub skip : (at j : ℕ) (fs : List (Option FlowFrame)) (todo : List ℕ) → IsTakenOff program m at j fs todo → frame_at fs at ≡ None → IsGoing program m fs todo
+  skip at j fs todo g e = record {
+    under = g.under;
+    rest = λ i. elim (eqb_tells i at) [
+      | inl p ↦ inr (λ k f e' q r. let s : frame_at fs at ≡ Some f = subst (λ z. frame_at fs z ≡ Some f) (p.1) q in absurd cc)
+      | inr p ↦ g.others i (p.1)
     ];
   }
 
   settled-up : (i : ℕ) (fs gs : List (Option FlowFrame)) → ((j : ℕ) → FitsThere (superclasses program) (frame_at fs j) (frame_at gs j)) → frame_at gs i ≡ frame_at fs i → Settled program m fs i → Settled program m gs i
   settled-up i fs gs rise e s k f e' p q = place-up _ (frame_at fs (target e')) _ (s k f e' (sym e ∙ p) q) (rise (target e'))
 
-  pub partly-step : (at j : ℕ) (f : FlowFrame) (e : Edge) (fs gs : List (Option FlowFrame)) (todo more : List ℕ) → IsPartly program m at f j fs todo → slice_get (edges program m at) j ≡ Some e → IsFlow (given program m at f e) (target e) fs todo gs more → IsPartly program m at f (suc j) gs more
-  partly-step at j f e fs gs todo more p i w = record {
+  -- a flow of what every closed assignment takes
+  pub partly-flow : (at j to : ℕ) (f g : FlowFrame) (fs gs : List (Option FlowFrame)) (todo more : List ℕ) → IsPartly program m at f j fs todo → ((hs : List (Option FlowFrame)) → IsClosed program m hs → FitsPlace (superclasses program) g (frame_at hs to)) → IsFlow g to fs todo gs more → IsPartly program m at f j gs more
+  partly-flow at j to f g fs gs todo more p b w = record {
     under = record {
       assignment = record { long = w.long ∙ p.under.assignment.long; frames = w.frames };
       entry = place-up _ (frame_at fs 0) _ p.under.entry (w.rise 0);
-      below = λ hs c. w.least hs c.assignment (p.under.below hs c) (given-below at j f e hs p.frame c i (frame_at hs at) refl (place-up f (frame_at fs at) _ p.base (p.under.below hs c at)));
+      below = λ hs c. w.least hs c.assignment (p.under.below hs c) (b hs c);
     };
     frame = p.frame;
     base = place-up f (frame_at fs at) _ p.base (w.rise at);
@@ -240,18 +264,48 @@ module _ (program : Program) (tree : IsTree (superclasses program)) (m : Method)
       | inl h ↦ inl (w.kept at h)
       | inr h ↦ elim (w.same at) [
         | inl q ↦ inl q
-        | inr q ↦ inr (
-          q ∙ h.0,
-          λ k e' l r. elim (eqb_tells k j) [
-            | inl s ↦ let t : Some e' ≡ Some e = sym r ∙ subst (λ z. slice_get (edges program m at) z ≡ Some e) (sym (s.1)) i in
-                let u : e ≡ e' = cc in
-                subst (λ z. FitsPlace (superclasses program) (given program m at f z) (frame_at gs (target z))) u w.there
-            | inr s ↦ place-up _ (frame_at fs (target e')) _ ((h.1) k e' (less k j l (s.1)) r) (w.rise (target e'))
-          ],
-        )
+        | inr q ↦ inr (q ∙ h.0, λ k e' l r. place-up _ (frame_at fs (target e')) _ ((h.1) k e' l r) (w.rise (target e')))
       ]
     ];
   }
+
+  -- what it gives along the first n ways fits
+  pub partly-all : (at j n : ℕ) (f : FlowFrame) (fs : List (Option FlowFrame)) (todo : List ℕ) → IsPartly program m at f j fs todo → ((k : ℕ) (e : Edge) → k < n → slice_get (edges program m at) k ≡ Some e → FitsPlace (superclasses program) (given program m at f e) (frame_at fs (target e))) → IsPartly program m at f n fs todo
+  partly-all at j n f fs todo p w = record {
+    under = p.under;
+    frame = p.frame;
+    base = p.base;
+    others = p.others;
+    own = elim p.own [ inl h ↦ inl h | inr h ↦ inr (h.0, w) ];
+  }
+
+  -- one way more
+  partly-more : (at j : ℕ) (f : FlowFrame) (e : Edge) (fs : List (Option FlowFrame)) (todo : List ℕ) → IsPartly program m at f j fs todo → slice_get (edges program m at) j ≡ Some e → FitsPlace (superclasses program) (given program m at f e) (frame_at fs (target e)) → IsPartly program m at f (suc j) fs todo
+  partly-more at j f e fs todo p i w = record {
+    under = p.under;
+    frame = p.frame;
+    base = p.base;
+    others = p.others;
+    own = elim p.own [
+      | inl h ↦ inl h
+      | inr h ↦ inr (
+        h.0,
+        λ k e' l r. elim (eqb_tells k j) [
+          | inl s ↦ let t : Some e' ≡ Some e = sym r ∙ subst (λ z. slice_get (edges program m at) z ≡ Some e) (sym (s.1)) i in
+              let u : e ≡ e' = cc in
+              subst (λ z. FitsPlace (superclasses program) (given program m at f z) (frame_at fs (target z))) u w
+          | inr s ↦ (h.1) k e' (less k j l (s.1)) r
+        ],
+      )
+    ];
+  }
+
+  pub partly-step : (at j : ℕ) (f : FlowFrame) (e : Edge) (fs gs : List (Option FlowFrame)) (todo more : List ℕ) → IsPartly program m at f j fs todo → slice_get (edges program m at) j ≡ Some e → IsFlow (given program m at f e) (target e) fs todo gs more → IsPartly program m at f (suc j) gs more
+  partly-step at j f e fs gs todo more p i w =
+      partly-more at j f e gs more
+      (partly-flow at j (target e) f (given program m at f e) fs gs todo more p
+      (λ hs c. given-below at j f e hs p.frame c i (frame_at hs at) refl (place-up f (frame_at fs at) _ p.base (p.under.below hs c at))) w)
+      i w.there
 
   pub partly-end : (at j : ℕ) (f : FlowFrame) (fs : List (Option FlowFrame)) (todo : List ℕ) → IsPartly program m at f j fs todo → length (edges program m at) ≤ j → IsGoing program m fs todo
   partly-end at j f fs todo p l = record {

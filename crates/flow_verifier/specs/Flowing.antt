@@ -1,7 +1,8 @@
 -- What one flow does to the frames and to the list of those that rose.
-use Rattle.std.specs.Prelude.{◌≡◌, ℕ, Bool, true, false, length, List, [], ◌∷◌, ◌++◌, slice_set, Option, Some, None}
-use Rattle.flow_types.specs.Frames.{frame_joined}
+use Rattle.std.specs.Prelude.{◌≡◌, ℕ, Bool, true, false, ◌⊎◌, length, List, [], ◌∷◌, ◌++◌, slice_set, Option, Some, None}
+use Rattle.flow_types.specs.Frames.{clash_frame, frame_joined}
 use Rattle.flow_types.specs.declared.flow_frame.FlowFrame.{FlowFrame}
+use Rattle.flow_verifier.specs.Catching.{without_operands}
 use Rattle.flow_verifier.specs.Going.{In}
 use Rattle.flow_verifier.specs.Typing.{frame_at, FitsPlace}
 
@@ -38,3 +39,9 @@ pub data Flows (supers : List (Option ℕ)) (g : FlowFrame) (to : ℕ)
       (FitsPlace supers g (frame_at fs to) → ⊥) →
       gs ≡ slice_set fs to (Some (merged supers (frame_at fs to) g)) →
       more ≡ todo → In to todo → Flows supers g to fs todo gs more
+
+-- what a range has caught once it catches a frame more; where no handler covers it, the clash frame
+-- may stand for it
+abbrev pub IsMore : List (Option ℕ) → Bool → Option FlowFrame → FlowFrame → FlowFrame → Type 0
+IsMore supers covered before f c =
+    (c ≡ merged supers before (without_operands f)) ⊎ ((covered ≡ false) × (c ≡ clash_frame))

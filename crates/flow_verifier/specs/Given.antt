@@ -1,5 +1,5 @@
 -- What an instruction gives to those after it, and the rules that it breaks.
-use Rattle.std.specs.Prelude.{ℕ, ◌+◌, ◌==◌, nat_lt, nat_le, Bool, true, false, not, ◌&&◌, if◌then◌else◌, List, [], ◌∷◌, ◌++◌, length, map, filter, reverse, slice_get, Option, Some, None}
+use Rattle.std.specs.Prelude.{ℕ, ◌+◌, ◌==◌, nat_lt, nat_le, Bool, false, not, ◌&&◌, if◌then◌else◌, List, [], ◌∷◌, ◌++◌, length, map, filter, reverse, slice_get, Option, Some, None}
 use Rattle.std.specs.List.{list_any}
 use Rattle.jvm_base.specs.Words.{from}
 use Rattle.code_table.specs.declared.code.Placed.{Placed}
@@ -133,11 +133,6 @@ fall_edges count i o = if falls o.op && nat_lt (i + 1) count then Next (i + 1) �
 -- an address lies in the range of a handler
 abbrev pub covers : ℕ → Handler → Bool
 covers at h = nat_le h.start at && nat_lt at h.until
-
--- an edge leads to a handler
-abbrev pub is_caught : Edge → Bool
-is_caught (Next to) = false
-is_caught (Caught to class) = true
 
 -- to a handler
 abbrev pub catching : Handler → Edge

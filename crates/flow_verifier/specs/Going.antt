@@ -1,21 +1,25 @@
 -- What holds while frames still rise.
+use Rattle.code_table.specs.declared.code.Placed.{Placed}
 use Rattle.program_image.specs.Program.{Program}
 use Rattle.flow_types.specs.Tree.{superclasses}
-use Rattle.std.specs.Prelude.{Bool, true, false, ◌≡◌, ℕ, ◌<◌, ◌⊎◌, List, [], ◌∷◌, length, slice_get, slice_set, Option, Some, None}
+use Rattle.std.specs.Prelude.{Bool, true, false, ◌≡◌, ℕ, ◌+◌, ◌<◌, ◌⊎◌, List, [], ◌∷◌, length, slice_get, slice_set, Option, Some, None}
 use Rattle.std.specs.Bool.{MatchBool}
 use Rattle.std.specs.List.{list_any}
-use Rattle.jvm_base.specs.Words.{from}
 use Rattle.std.proofs.Math.ListN.{replicate}
-use Rattle.flow_types.specs.Frames.{clash_frame, IsFrame}
+use Rattle.flow_types.specs.Frames.{clash_frame, frame_fits, IsFrame}
 use Rattle.flow_types.specs.declared.flow_frame.FlowFrame.{FlowFrame}
 use Rattle.flow_types.specs.declared.flow_type.FlowType.TheVariants.{Class}
 use Rattle.flow_verifier.specs.declared.method.Method.{Method}
 use Rattle.flow_verifier.specs.declared.method.Edge.{Edge}
-use Rattle.flow_verifier.specs.declared.method.Edge.TheVariants.{Next, Caught}
+use Rattle.flow_verifier.specs.declared.method.Edge.TheVariants.{Next}
 use Rattle.flow_verifier.specs.declared.facts.Facts.{Facts}
 use Rattle.flow_verifier.specs.declared.rising.Rising.{Rising}
 use Rattle.flow_verifier.specs.declared.visit.Visit.{Visit}
+use Rattle.flow_verifier.specs.declared.catches.Catch.{Catch}
 use Rattle.flow_verifier.specs.Methods.{ops_of, room_of}
+use Rattle.flow_verifier.specs.Ranges.{flag_at}
+use Rattle.flow_verifier.specs.Leading.{successors, ways_caught}
+use Rattle.flow_verifier.specs.Catching.{without_operands, TakenAt, IsCatching, IsUncaught}
 use Rattle.flow_verifier.specs.Given.{is_bad_at, given, target, edges}
 use Rattle.flow_verifier.specs.Typing.{frame_at, FitsPlace, FitsThere, entry_frame, IsAssignment, IsClosed}
 
@@ -58,11 +62,16 @@ pub record IsPartly (p : Program) (m : Method) (at : ℕ) (f : FlowFrame) (j : �
       × ((k : ℕ) (e : Edge) → k < j → slice_get (edges p m at) k ≡ Some e →
       FitsPlace (superclasses p) (given p m at f e) (frame_at fs (target e))))
 
--- ---- the code's view
+-- so are the first j ways from an instruction taken off the list, if it has a frame
+pub record IsTakenOff (p : Program) (m : Method) (at j : ℕ)
+    (fs : List (Option FlowFrame)) (todo : List ℕ) : Type 0 where
+  pub under : IsBelow p m fs
+  pub others : (i : ℕ) → (i ≡ at → ⊥) → In i todo ⊎ Settled p m fs i
+  pub own : In at todo ⊎ ((k : ℕ) (f : FlowFrame) (e : Edge) → k < j →
+      frame_at fs at ≡ Some f → slice_get (edges p m at) k ≡ Some e →
+      FitsPlace (superclasses p) (given p m at f e) (frame_at fs (target e)))
 
--- the flag of a place, if it has one
-abbrev pub flag_at : List Bool → ℕ → Bool
-flag_at flags i = from false (λ b. b) (slice_get flags i)
+-- ---- the code's view
 
 -- for each place whether a bad handler is there
 pub record IsKnown (p : Program) (m : Method) (facts : Facts) : Type 0 where
@@ -78,6 +87,7 @@ pub record IsStart (p : Program) (m : Method) (s : Rising) : Type 0 where
   pub frames : s.frames ≡ slice_set (replicate (length (ops_of p m.number)) None) 0 (Some (entry_frame m))
   pub todo : s.todo ≡ 0 ∷ []
   pub marked : IsMarked s
+  pub uncaught : IsUncaught p m s.catches
 
 -- a frame's locals below one operand; the clash frame for itself
 abbrev pub IsCatcher : FlowFrame → FlowFrame → Type 0
@@ -91,16 +101,36 @@ pub record IsPut (c d : FlowFrame) (class : ℕ) : Type 0 where
   pub fresh : d.fresh ≡ c.fresh
   pub clash : d.clash ≡ c.clash
 
--- what flows from the instruction at a place that has the frame
+-- what goes on with control from the instruction at a place that has the frame
 pub record IsFlowing (p : Program) (m : Method) (f : FlowFrame) (v : Visit) : Type 0 where
-  pub edges : v.edges ≡ edges p m v.at
+  pub to : v.to ≡ successors p m v.at
   pub next : (to : ℕ) → v.next ≡ given p m v.at f (Next to)
-  pub caught : (k to class : ℕ) →
-      slice_get v.edges k ≡ Some (Caught to class) → IsCatcher f v.caught
 
--- it has gone along the first j ways
+-- it has gone on to the first j successors
 pub record IsVisiting (p : Program) (m : Method) (v : Visit) (j : ℕ) (s : Rising) : Type 0 where
   pub frame : FlowFrame
   pub flowing : IsFlowing p m frame v
-  pub partly : IsPartly p m v.at frame j s.frames s.todo
+  pub partly : IsPartly p m v.at frame (ways_caught p m v.at + j) s.frames s.todo
   pub marked : IsMarked s
+  pub catching : IsCatching p m s.frames s.catches
+
+-- what a place's range has caught with the place's frame: no more than handlers take in the end
+pub record IsCaught (p : Program) (m : Method) (f : FlowFrame) (c : Catch) : Type 0 where
+  pub placed : Placed
+  pub is_placed : slice_get (ops_of p m.number) c.at ≡ Some placed
+  pub address : placed.at ≡ c.address
+  pub frame : IsFrame (superclasses p) (room_of m) c.caught
+  pub bare : without_operands c.caught ≡ c.caught
+  pub above : frame_fits (superclasses p) (without_operands f) c.caught ≡ true
+  pub below : (gs : List (Option FlowFrame)) → IsClosed p m gs →
+      TakenAt p m c.at c.caught (length m.handlers) gs
+  pub catcher : IsCatcher c.caught c.thrown
+
+-- it has flowed to those of the first n handlers that cover the place
+pub record IsThrowing (p : Program) (m : Method) (c : Catch) (n : ℕ) (s : Rising) : Type 0 where
+  pub frame : FlowFrame
+  pub caught : IsCaught p m frame c
+  pub partly : IsPartly p m c.at frame 0 s.frames s.todo
+  pub taken : TakenAt p m c.at c.caught n s.frames
+  pub marked : IsMarked s
+  pub catching : IsCatching p m s.frames s.catches

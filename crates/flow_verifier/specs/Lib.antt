@@ -1,7 +1,10 @@
 pub mod Methods
 pub mod Given
+pub mod Ranges
 pub mod Typing
 pub mod Reasons
 pub mod Flowing
+pub mod Leading
+pub mod Catching
 pub mod Going
 pub mod Potential

@@ -4,7 +4,8 @@ ghost use Rattle.std.specs.Prelude.{◌≡◌, ◌<◌, ◌||◌, ℕ, length, I
 ghost use Rattle.std.specs.List.{list_any};
 ghost use Rattle.flow_verifier.specs.Methods.{IsMethod};
 ghost use Rattle.flow_verifier.specs.Given.{is_bad_at};
-ghost use Rattle.flow_verifier.specs.Going.{flag_at, IsKnown};
+ghost use Rattle.flow_verifier.specs.Ranges.{flag_at};
+ghost use Rattle.flow_verifier.specs.Going.{IsKnown};
 
 use crate::method::{Handler, Method, ops_of};
 use crate::rising::no_flags;

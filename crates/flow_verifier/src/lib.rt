@@ -2,14 +2,16 @@
 #![tactic(auto)]
 
 mod answer;
-mod edges;
+mod catches;
 mod facts;
 mod frames;
 mod given;
 mod method;
+mod ranges;
 mod rising;
 mod shared_frame;
 mod solver;
+mod successors;
 mod verifying;
 mod visit;
 

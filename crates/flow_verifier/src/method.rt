@@ -54,6 +54,16 @@ pub(crate) fn ops_of(image: &Image, number: u32) -> &[Placed]
     }
 }
 
+/// The address of the instruction at a place.
+pub(crate) fn address_of(image: &Image, m: &Method, place: usize) -> u32
+    requires within { m.now.number < length image.now.methods }
+    requires place { place < length (ops_of image.now m.now.number) }
+    ensures { (o : Placed) → slice_get (ops_of image.now m.now.number) place ≡ Some o → result
+        ≡ o.at }
+{
+    ops_of(image, m.number)[place].at
+}
+
 /// The place of the instruction at an address.
 pub(crate) fn place_of(ops: &[Placed], at: u32) -> u32
     requires few { length ops.now < 2 ^ 32 }

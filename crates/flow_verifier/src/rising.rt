@@ -1,13 +1,15 @@
 //! The frames so far, and the places whose frames rose.
 
 ghost use Rattle.std.specs.Prelude.{◌≡◌, ◌+◌, ◌<◌, ◌≤◌, ◌↔◌, ◌∷◌, ◌++◌, ◌⊎◌, [], length, slice_get, slice_set, OnOk, IfOk, MatchOption, IsTrue, true, false, Some, None, ℕ};
+ghost use Rattle.std.specs.Option.{option_copied};
 ghost use Rattle.std.proofs.Math.ListN.{replicate};
 ghost use Rattle.flow_types.specs.Tree.{superclasses, IsTree};
-ghost use Rattle.flow_verifier.specs.Methods.{ops_of};
+ghost use Rattle.flow_verifier.specs.Methods.{ops_of, IsMethod};
 ghost use Rattle.flow_verifier.specs.Typing.{frame_at, entry_frame};
 ghost use Rattle.flow_verifier.specs.Flowing.{Flows, Rose, IsAlike};
 ghost use Rattle.flow_verifier.specs.Going.{In, IsFlagged, IsMarked, IsStart};
 
+use crate::catches::Catches;
 use crate::method::{Method, ops_of};
 use crate::shared_frame::SharedFrame;
 use flow_types::Steps;
@@ -16,13 +18,14 @@ use program_image::Image;
 use std::alloc::Global;
 use std::sync::ledger::Ledger;
 
-/// The frames so far, the places to visit since their frames rose, and for each place whether it
-/// is among these.
+/// The frames so far, the places to visit since their frames rose, for each place whether it is
+/// among these, and what handlers have taken.
 #[derive(Drop)]
 pub(crate) struct Rising {
     pub frames: List<Option<SharedFrame>>,
     pub todo: List<u32>,
     pub queued: List<bool>,
+    pub catches: Catches,
 }
 
 /// Lets a frame flow to a place, and tells whether the place's frame rose.
@@ -48,7 +51,8 @@ fn rise(
     Ok(true)
 }
 
-fn no_frames(alloc: Global, count: usize) -> Result<List<Option<SharedFrame>>, NoMemory>
+/// No frame for each place.
+pub(crate) fn no_frames(alloc: Global, count: usize) -> Result<List<Option<SharedFrame>>, NoMemory>
     ensures { IfOk result (λ fs. fs ≡ replicate count None) }
 {
     let mut frames = List::new(alloc);
@@ -69,6 +73,16 @@ pub(crate) fn no_flags(alloc: Global, count: usize) -> Result<List<bool>, NoMemo
     Ok(flags)
 }
 
+/// The frame of a place, if it has one.
+pub(crate) fn frame_at(frames: &List<Option<SharedFrame>>, at: u32) -> Option<&SharedFrame>
+    ensures { option_copied result ≡ frame_at frames.now at }
+{
+    match frames.get(at as usize) {
+        Some(Some(f)) => Some(f),
+        _ => None,
+    }
+}
+
 fn clear(queued: &mut List<bool>, at: u32)
     ensures { queued.new ≡ slice_set queued.old at false }
 {
@@ -80,20 +94,21 @@ fn clear(queued: &mut List<bool>, at: u32)
 impl Rising {
     /// No frames but the entry's, which is to be visited.
     pub fn start(alloc: Global, image: &Image, m: &Method) -> Result<Rising, NoMemory>
-        requires within { m.now.number < length image.now.methods }
-        requires some { 0 < length (ops_of image.now m.now.number) }
+        requires fine { IsMethod image.now m.now }
         ensures { IfOk result (λ s. IsStart image.now m.now s) }
     {
         let count = ops_of(image, m.number).len();
         let mut frames = no_frames(alloc, count)?;
         frames.set(0, Some(SharedFrame::entry(alloc, m)?));
         let queued = no_flags(alloc, count)?;
+        let catches = Catches::new(alloc, image, m)?;
         let mut todo = List::new(alloc);
         todo.push(0)?;
         Ok(Rising {
             frames,
             todo,
             queued,
+            catches,
         })
     }
 
@@ -102,6 +117,7 @@ impl Rising {
         requires marked { IsMarked self.old }
         ensures marked { IsMarked self.new }
         ensures frames { self.new.frames ≡ self.old.frames }
+        ensures catches { self.new.catches ≡ self.old.catches }
         ensures todo { MatchOption result (self.old.todo ≡ []) (λ at. self.old.todo
             ≡ self.new.todo ++ at ∷ []) }
     {
@@ -125,6 +141,7 @@ impl Rising {
         requires within { to < length self.old.frames }
         ensures marked { OnOk result (IsMarked self.new) }
         ensures frames { self.new.frames ≡ self.old.frames }
+        ensures catches { self.new.catches ≡ self.old.catches }
         ensures todo { OnOk result ((self.new.todo ≡ self.old.todo ++ to ∷ []) ⊎ ((self.new.todo
             ≡ self.old.todo) × In to self.old.todo)) }
     {
@@ -151,6 +168,7 @@ impl Rising {
         ensures marked { OnOk result (IsMarked self.new) }
         ensures flows { OnOk result (Flows (superclasses image.now) g.now to self.old.frames self.old.todo
             self.new.frames self.new.todo) }
+        ensures catches { self.new.catches ≡ self.old.catches }
         ensures cost { steps.new ≤ steps.old + 1 }
     {
         steps.tick();

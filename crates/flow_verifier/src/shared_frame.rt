@@ -5,6 +5,7 @@ ghost use Rattle.flow_types.specs.Tree.{superclasses, IsTree};
 ghost use Rattle.flow_types.specs.Frames.{clash_frame, frame_fits, frame_joined};
 ghost use Rattle.flow_verifier.specs.Given.{work_of, frame_of_work};
 ghost use Rattle.flow_verifier.specs.Typing.{entry_frame};
+ghost use Rattle.flow_verifier.specs.Catching.{without_operands};
 ghost use Rattle.flow_verifier.specs.Going.{IsCatcher, IsPut};
 
 use crate::method::Method;
@@ -116,6 +117,21 @@ impl SharedFrame {
             fresh: work.fresh,
             clash: false,
         }
+    }
+
+    /// The locals of a frame, below no operand. It takes no memory.
+    pub(crate) fn without_operands(&self) -> Result<SharedFrame, NoMemory>
+        ensures { IfOk result (λ f. f ≡ without_operands self.now) }
+    {
+        if self.clash {
+            return Ok(SharedFrame::clash());
+        }
+        Ok(SharedFrame {
+            locals: self.locals.share()?,
+            stack: Stack::new(0),
+            fresh: self.fresh,
+            clash: false,
+        })
     }
 
     /// The locals of a frame, below an operand that stands for what is caught.

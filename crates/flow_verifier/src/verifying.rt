@@ -12,10 +12,9 @@ use crate::answer::{FlowErr, VerifyErr};
 use crate::facts::Facts;
 use crate::frames::Frames;
 use crate::given::broken_rule;
-use crate::method::{Method, method_with, ops_of};
+use crate::method::{Method, address_of, method_with};
 use crate::shared_frame::SharedFrame;
 use crate::solver::solve;
-use code_table::Placed;
 use flow_types::Steps;
 use jvm_base::{List, NoMemory};
 use program_image::{Body, Image};
@@ -47,16 +46,6 @@ fn rule_at(
         Some(Some(f)) => broken_rule(alloc, image, m, facts, i, f),
         _ => Ok(None),
     }
-}
-
-/// The address of the instruction at a place.
-fn address_of(image: &Image, m: &Method, place: usize) -> u32
-    requires within { m.now.number < length image.now.methods }
-    requires place { place < length (ops_of image.now m.now.number) }
-    ensures { (o : Placed) → slice_get (ops_of image.now m.now.number) place ≡ Some o → result
-        ≡ o.at }
-{
-    ops_of(image, m.number)[place].at
 }
 
 /// The lowest place at which a rule is broken.

@@ -66,7 +66,7 @@ pub fn class_type(image: &Image, class: u32) -> FlowType
     match &image.class(class).array {
         Some(array) => FlowType::Array {
             dims: array.dims,
-            elem: element_type(image, &array.elem),
+            elem: element_type(image, array.elem.get()),
         },
         None => FlowType::Class(plain(image, class)),
     }

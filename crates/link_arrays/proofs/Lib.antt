@@ -1,5 +1,6 @@
 pub mod SeenLaws
 pub mod Types
+pub mod SetLaws
 pub mod Levels
 pub mod Counted
 pub mod ClosedNames

@@ -47,6 +47,10 @@ elem_same a b = refl
 desc_same : (a b : Desc) → derived_desc.eq-value.it a b ≡ same_desc a b
 desc_same a b = ap (λ z. (a.dims == b.dims) && z) (elem_same a.elem b.elem)
 
+-- so is that of element types as a whole
+pub derived_elem_is : derived_elem.eq-value.it ≡ same_elem
+derived_elem_is = fun_ext (λ a. fun_ext (λ b. elem_same a b))
+
 -- so is that of types
 pub derived_is : derived_desc.eq-value.it ≡ same_desc
 derived_is = fun_ext (λ a. fun_ext (λ b. desc_same a b))

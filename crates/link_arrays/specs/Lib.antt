@@ -1,5 +1,6 @@
 pub mod Seen
 pub mod Arrays
+pub mod Sets
 pub mod ArrayClasses
 pub mod Counting
 pub mod Literals

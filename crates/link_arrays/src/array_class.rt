@@ -1,15 +1,18 @@
 //! Array classes: their numbers, and what they are.
 
 ghost use Rattle.std.specs.Prelude.{◌≡◌, ◌+◌, ◌≤◌, ◌<◌, length, IfOk, IfSome};
+ghost use Rattle.jvm_base.specs.Descriptors.{desc_text};
+ghost use Rattle.jvm_base.specs.declared.desc.Desc.{Desc as TypeDesc};
+ghost use Rattle.link_arrays.specs.Sets.{array_type};
 ghost use Rattle.link_arrays.specs.ArrayClasses.{class_limit, array_number, type_number, class_number, array_info, array_class, array_classes};
 
 use crate::arrays::Arrays;
-use crate::desc_text::desc_text;
+use crate::desc_set::{ArrayType, MOST_DIMS};
 use crate::elem::copy_elem;
 use class_names::{desc, is_array};
 use jvm_base::{Desc, Elem, List, NoMemory};
 use link_rules::Program;
-use program_image::{ArrayInfo, ClassInfo};
+use program_image::{ArrayInfo, ClassInfo, ClassName};
 use std::alloc::Global;
 
 /// Public, final and abstract (JVMS2 4.1).
@@ -68,49 +71,60 @@ pub fn class_number(
     }
 }
 
+/// What an array class is of, where its type is the one that is given.
 fn array_info(
     alloc: Global,
     program: &Program,
     arrays: &Arrays,
-    desc: &Desc,
+    array: &ArrayType,
 ) -> Result<ArrayInfo, NoMemory>
     requires { length program.now + length arrays.now ≤ class_limit }
-    ensures { IfOk result (λ info. info ≡ array_info program.now arrays.now desc.now) }
+    ensures { (d : TypeDesc) → array.now ≡ array_type d
+        → IfOk result (λ info. info ≡ array_info program.now arrays.now d) }
 {
     let part = Desc {
-        dims: desc.dims.saturating_sub(1),
-        elem: copy_elem(alloc, &desc.elem)?,
+        dims: array.dims.saturating_sub(1),
+        elem: copy_elem(alloc, array.share.elem.get())?,
     };
-    let number = type_number(program, arrays, &part);
     Ok(ArrayInfo {
-        dims: desc.dims,
-        elem: part.elem,
-        part: number,
+        dims: array.dims,
+        elem: array.share.elem.share()?,
+        part: type_number(program, arrays, &part),
     })
+}
+
+/// The name of the class of an array type: its descriptor. It takes no memory.
+fn array_name(array: &ArrayType) -> Result<ClassName, NoMemory>
+    ensures { (d : TypeDesc) → array.now ≡ array_type d → IfOk result (λ name. name ≡ desc_text d) }
+{
+    let from = usize::from(MOST_DIMS - array.dims);
+    let name = ClassName::end_of(&array.share.text, from)?;
+    Ok(name)
 }
 
 fn array_class(
     alloc: Global,
     program: &Program,
     arrays: &Arrays,
-    desc: &Desc,
+    array: &ArrayType,
 ) -> Result<ClassInfo, NoMemory>
     requires { length program.now + length arrays.now ≤ class_limit }
-    ensures { IfOk result (λ class. class ≡ array_class program.now arrays.now desc.now) }
+    ensures { (d : TypeDesc) → array.now ≡ array_type d
+        → IfOk result (λ class. class ≡ array_class program.now arrays.now d) }
 {
     Ok(ClassInfo {
-        name: desc_text(alloc, desc)?,
+        name: array_name(array)?,
         flags: ARRAY_FLAGS,
         super_class: Some(0),
         interfaces: List::new(alloc),
         fields: List::new(alloc),
         methods: List::new(alloc),
         clinit: None,
-        array: Some(array_info(alloc, program, arrays, desc)?),
+        array: Some(array_info(alloc, program, arrays, array)?),
     })
 }
 
-/// The array classes, by number.
+/// The array classes, by number. Those of one element type share their names.
 pub fn array_classes(
     alloc: Global,
     program: &Program,
@@ -119,9 +133,10 @@ pub fn array_classes(
     requires { length program.now + length arrays.now ≤ class_limit }
     ensures { IfOk result (λ classes. classes ≡ array_classes program.now arrays.now) }
 {
+    let types = arrays.types(alloc)?;
     let mut classes = List::new(alloc);
-    for desc in arrays.types() {
-        classes.push(array_class(alloc, program, arrays, desc)?)?;
+    for array in types.as_slice() {
+        classes.push(array_class(alloc, program, arrays, array)?)?;
     }
     Ok(classes)
 }

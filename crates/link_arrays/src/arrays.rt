@@ -8,15 +8,15 @@ ghost use Rattle.numbering.specs.Seen.{is_seen, with_item};
 ghost use Rattle.program_image.specs.Signatures.{same_desc};
 ghost use Rattle.link_arrays.specs.Arrays.{array, with_parts, op_types, code_types, file_types, strings, with_types};
 ghost use Rattle.link_arrays.specs.Marks.{key_of, AreAdded};
+ghost use Rattle.link_arrays.specs.Sets.{array_type};
 ghost use Rattle.link_arrays.specs.Counting.{counted, arrays_of, told, Adds, AreClosed, AreSoFar};
 
-use crate::elem::copy_elem;
+use crate::desc_set::{ArrayType, DescSet};
 use crate::error::ArraysErr;
 use crate::marks::{Key, Keys, key_of};
 use crate::named::op_array;
 use class_format::ClassFile;
 use code_table::{Code, Op, Placed};
-use indexmap::IndexSet;
 use jvm_base::{Desc, Elem, List, NoMemory, PoolItem, Units};
 use link_rules::ops;
 use std::alloc::Global;
@@ -33,7 +33,7 @@ const STRING: [u16; 16] = [
 /// Array types in order of first sight, each once. Contracts see the list of them.
 #[derive(Drop)]
 pub struct Arrays {
-    types: IndexSet<Desc>,
+    types: DescSet,
 }
 
 impl Model for Arrays {
@@ -46,7 +46,7 @@ impl Model for Arrays {
 
     ghost coded = { coded_list the_row.coded };
 
-    ghost view = { λ a. a.types.keys };
+    ghost view = { λ a. a.types };
 }
 
 impl Arrays {
@@ -54,7 +54,7 @@ impl Arrays {
         ensures { result ≡ [] }
     {
         Arrays {
-            types: IndexSet::new(alloc),
+            types: DescSet::new(alloc),
         }
     }
 
@@ -64,8 +64,7 @@ impl Arrays {
             (λ fresh. fresh ≡ not (is_seen same_desc self.old (array dims elem.now))) }
         ensures types { OnOk result (self.new ≡ with_item same_desc self.old (array dims elem.now)) }
     {
-        let elem = copy_elem(alloc, elem)?;
-        Ok(self.types.insert(Desc { dims, elem })?)
+        self.types.add(alloc, dims, elem)
     }
 
     /// Adds a type and its parts that are arrays. It stops at the first that isn't new, whose own
@@ -286,11 +285,18 @@ impl Arrays {
         Ok(arrays)
     }
 
-    /// The types, in order.
-    pub fn types(&self) -> &[Desc]
-        ensures { result.now ≡ self.now }
+    /// How many types there are.
+    pub fn len(&self) -> usize
+        ensures { result ≡ length self.now }
     {
-        self.types.as_slice()
+        self.types.len()
+    }
+
+    /// The types, in order, each with what it shares.
+    pub(crate) fn types(&self, alloc: Global) -> Result<List<ArrayType>, NoMemory>
+        ensures { IfOk result (λ types. types ≡ map array_type self.now) }
+    {
+        self.types.types(alloc)
     }
 
     /// The place of a type among them; `None` exactly where it isn't there.
@@ -298,6 +304,6 @@ impl Arrays {
         ensures at { result ≡ position (same_desc desc.now) self.now }
         ensures within { IfSome result (λ k. k < length self.now) }
     {
-        self.types.get_index_of(desc)
+        self.types.place(desc)
     }
 }

@@ -3,6 +3,7 @@
 
 mod array_class;
 mod arrays;
+mod desc_set;
 mod desc_text;
 mod elem;
 mod error;

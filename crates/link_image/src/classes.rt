@@ -14,7 +14,7 @@ use class_format::{ClassFile, MethodItem};
 use class_names::{is_clinit, is_name, super_text, text, this_name};
 use jvm_base::{List, NoMemory, Units};
 use link_rules::Program;
-use program_image::ClassInfo;
+use program_image::{ClassInfo, ClassName};
 use std::alloc::Global;
 
 /// `()V`
@@ -90,7 +90,7 @@ fn class_info(
         number file.now) }
 {
     Ok(ClassInfo {
-        name: Units::from_slice(alloc, this_name(file))?,
+        name: ClassName::new(alloc, Units::from_slice(alloc, this_name(file))?)?,
         flags: file.flags,
         super_class: super_number(program, file),
         interfaces: List::from_vec(Vec::from_slice(alloc, interfaces)?),

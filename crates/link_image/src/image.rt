@@ -93,7 +93,7 @@ pub fn build(
     let program = resolver.program();
     let (boot, files) = program.parts();
     let constants = Constants {
-        classes: (boot.len() + files.len() + arrays.types().len()) as u32,
+        classes: (boot.len() + files.len() + arrays.len()) as u32,
         literals,
     };
     let codes = joined(alloc, boot_codes, codes)?;

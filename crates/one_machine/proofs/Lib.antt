@@ -5,3 +5,6 @@ pub mod Ables
 pub mod Counting
 pub mod Founds
 pub mod InPlace
+pub mod Gliding
+pub mod GlideLevels
+pub mod GlideRuns

@@ -3,3 +3,4 @@ pub mod Going
 pub mod Doing
 pub mod Found
 pub mod InPlace
+pub mod Gliding

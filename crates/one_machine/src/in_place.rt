@@ -66,7 +66,7 @@ fn move_body(image: &Image, frame: &mut Frame) -> bool
 }
 
 /// The frame goes on, where it runs its code.
-fn move_frame(image: &Image, frame: &mut Frame) -> bool
+pub(crate) fn move_frame(image: &Image, frame: &mut Frame) -> bool
     requires whole { IsWhole image.now }
     requires can { CanPlanIn image.now frame.old }
     ensures moved { result ≡ is_some (frame_next image.now frame.old frame.old.phase) }

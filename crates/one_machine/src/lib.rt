@@ -2,6 +2,7 @@
 #![tactic(auto)]
 
 mod able;
+mod glide;
 mod in_place;
 mod machine;
 mod perform;

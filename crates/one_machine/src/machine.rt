@@ -1,10 +1,10 @@
 //! The one machine and its steps.
 
-ghost use Rattle.std.specs.Prelude.{◌≡◌, None, length, map, option_map, slice_get, Some, IfOk, IfErr, OnOk, OnErr};
+ghost use Rattle.std.specs.Prelude.{◌≡◌, ◌≤◌, ◌++◌, None, length, map, option_map, replicate, slice_get, Some, IfOk, IfErr, OnOk, OnErr};
 ghost use Rattle.std.specs.List.{list_all};
 ghost use Rattle.machine_state.specs.Reasons.{reason};
 ghost use Rattle.machine_state.specs.declared.served.Wish.TheVariants.{Fresh};
-ghost use Rattle.machine_state.specs.Runs.{end_of};
+ghost use Rattle.machine_state.specs.Runs.{any_choice, end_of};
 ghost use Rattle.machine_state.specs.Start.{start};
 ghost use Rattle.machine_state.specs.State.{is_ended};
 ghost use Rattle.machine_state.specs.Step.{step};
@@ -12,14 +12,16 @@ ghost use Rattle.program_reads.specs.Kept.{IsKept};
 ghost use Rattle.shared_state.specs.First.{IsOpening};
 ghost use Rattle.shared_state.specs.Parts.{thread_state};
 ghost use Rattle.step_serve.specs.Blank.{AreBlanks};
+ghost use Rattle.one_machine.specs.Gliding.{Glides, GlidesOn};
 ghost use Rattle.one_machine.specs.Going.{IsWent, IsReason};
 ghost use Rattle.one_machine.specs.Ready.{CanRun, IsAble, IsNext, IsReady, machine_at};
 ghost use Rattle.step_attempt.specs.Going.{state_at};
 
 use crate::able::{any_step, next_able};
+use crate::glide::{add_choices, glide};
 use crate::taking::{Went, take};
 use jvm_base::{NoMemory, Uncaught, Units};
-use machine_state::{Choice, End, Mode, Reason, Wish};
+use machine_state::{Choice, End, Mode, Order, Reason, Wish};
 use program_image::Image;
 use program_reads::{Tables, boot};
 use shared_state::{Opening, Shared, Thread};
@@ -176,6 +178,35 @@ impl Machine {
             index,
         };
         self.take(alloc, image, wish, Some(most))
+    }
+
+    /// Takes steps of a thread in a row that touch its frame alone, and adds their choices to the
+    /// order: up to so many, and until the thread has taken so many in all. It stops before the
+    /// first step that does more, and answers how many it took. Where memory runs out the order is
+    /// that of steps that were taken, of which the machine may have taken more.
+    pub fn glide(
+        &mut self,
+        image: &Image,
+        thread: u32,
+        most: u64,
+        limit: u64,
+        order: &mut Order,
+    ) -> Result<u64, NoMemory>
+        requires { IsReady image.now self.old }
+        ensures glides { IfOk result
+            (λ n. Glides image.now self.old.state thread most limit n self.new.state) }
+        ensures few { IfOk result (λ n. n ≤ most) }
+        ensures order { IfOk result
+            (λ n. order.new ≡ order.old ++ replicate n (any_choice thread)) }
+        ensures err { OnErr result
+            (GlidesOn image.now self.old.state thread order.old order.new) }
+        ensures ready { IsReady image.now self.new }
+        ensures tables { self.new.tables ≡ self.old.tables }
+        ensures blanks { self.new.blanks ≡ self.old.blanks }
+    {
+        let taken = glide(image, &mut self.threads, thread, most, limit);
+        add_choices(order, thread, taken)?;
+        Ok(taken)
     }
 
     /// The machine as its steps look at it. Which choice is wished is of no account.

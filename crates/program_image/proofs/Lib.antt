@@ -1,4 +1,5 @@
 mod Examples
+pub mod AlikeLaws
 pub mod ImageLaws
 pub mod MemberLaws
 pub mod NameLaws

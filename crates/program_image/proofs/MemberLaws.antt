@@ -24,7 +24,7 @@ use Rattle.program_image.proofs.Rows.{got}
 -- ---- the order of members
 
 -- an order by two is equal where both are
-then_equal : (o p : Ordering) → is_eq (ordering_then o p) ≡ (is_eq o && is_eq p)
+pub then_equal : (o p : Ordering) → is_eq (ordering_then o p) ≡ (is_eq o && is_eq p)
 then_equal Less p = refl
 then_equal Equal p = refl
 then_equal Greater p = refl
@@ -36,7 +36,7 @@ same_false : (a b : ℕ) → (a ≡ b → ⊥) → nat_eq a b ≡ false
 same_false a b e = grind (arith, nat_tests)
 
 -- numbers compare equal where they are one
-numbers_equal : (a b : ℕ) → is_eq (nat_cmp a b) ≡ nat_eq a b
+pub numbers_equal : (a b : ℕ) → is_eq (nat_cmp a b) ≡ nat_eq a b
 numbers_equal a b = elim (cases_eq a b) [
   | inl e ↦ ap is_eq (sym (nat_cmp_is a b Equal e)) ∙ sym (same_true a b e)
   | inr ne ↦ elim (cases_lt a b) [

@@ -2,6 +2,6 @@
 pub mod Ancestry
 pub mod Image
 pub mod Members
-pub mod Names
+pub mod Alike
 pub mod Packages
 pub mod Signs

@@ -11,11 +11,11 @@ ghost use Rattle.program_image.specs.Buffers.{is_buffer};
 ghost use Rattle.program_image.specs.Built.Signs.{AreSigns};
 ghost use Rattle.program_image.specs.Named.{first_named};
 
+use crate::alike::{Alike, named, names};
 use crate::ancestry::Ancestry;
 use crate::handlers::{Targets, handler, target};
 use crate::info::{Body, ClassInfo, MethodInfo, Target};
 use crate::members::Members;
-use crate::names::{Names, class_named, names};
 use crate::select::{Selected, select};
 use crate::signs::signs;
 use crate::subclass::is_below;
@@ -39,7 +39,7 @@ pub struct Image {
     main: u32,
     ancestry: Ancestry,
     members: Members,
-    names: Names,
+    names: Alike,
 }
 
 impl Model for Image {
@@ -151,12 +151,12 @@ impl Image {
         &self.classes.as_slice()[class as usize]
     }
 
-    /// The first class of a name; `None` exactly where there is none. It takes time in the length of
-    /// the name, however many classes there are.
+    /// The first class of a name; `None` exactly where there is none. It compares the name with those
+    /// alone that look like it at a glance.
     pub fn named(&self, name: &Units) -> Option<u32>
         ensures { result ≡ first_named self.now.classes name.now }
     {
-        class_named(&self.names, name)
+        named(self.classes.as_slice(), &self.names, name)
     }
 
     /// A method by its number.

@@ -1,5 +1,6 @@
 //! What a linked program knows of its classes, fields and methods.
 
+use crate::class_name::ClassName;
 use code_table::Code;
 use jvm_base::{Desc, Elem, List, MethodDesc, Units, Value};
 use shared_value::Shared;
@@ -22,7 +23,7 @@ pub struct FieldInfo {
 #[derive(Drop)]
 pub struct ArrayInfo {
     pub dims: u8,
-    pub elem: Elem,
+    pub elem: Shared<Elem>,
     pub part: Option<u32>,
 }
 
@@ -30,7 +31,7 @@ pub struct ArrayInfo {
 /// `methods` are its own, as its file orders them. `clinit` is its `<clinit>` of descriptor `()V`.
 #[derive(Drop)]
 pub struct ClassInfo {
-    pub name: Units,
+    pub name: ClassName,
     pub flags: u16,
     pub super_class: Option<u32>,
     pub interfaces: List<u32>,

@@ -1,48 +1,35 @@
 //! Packages of classes as numbers.
 
-ghost use Rattle.std.specs.Prelude.{◌≡◌, map, IfOk};
-ghost use Rattle.program_image.specs.Selection.{package_of};
-ghost use Rattle.program_image.specs.Built.Packages.{ArePackages, name_package};
+ghost use Rattle.std.specs.Prelude.{◌≡◌, ◌≤◌, length, map, IfOk};
+ghost use Rattle.program_image.specs.Built.Alike.{AreAlike};
+ghost use Rattle.program_image.specs.declared.alike.By.TheVariants.{Package};
+ghost use Rattle.program_image.specs.Built.Packages.{ArePackages, package_number};
 
+use crate::alike::{Alike, By, alike, first, text_of};
 use crate::info::ClassInfo;
-use jvm_base::{List, NoMemory, Units};
-use numbering::Numbers;
+use jvm_base::{List, NoMemory};
 use std::alloc::Global;
 
-/// The part of a name before its last `/`.
-fn package(name: &[u16]) -> &[u16]
-    ensures { result.now ≡ package_of name.now }
+/// The number of a class's package: that of the first class there.
+fn package_number(classes: &[ClassInfo], alike: &Alike, class: &ClassInfo) -> usize
+    requires { AreAlike Package classes.now classes.now alike.now.entries }
+    ensures { result ≡ package_number classes.now class.now }
 {
-    let mut end = name.len();
-    while end > 0 {
-        end -= 1;
-        if name[end] == u16::from(b'/') {
-            return &name[..end];
-        }
+    match first(By::Package, classes, alike, text_of(By::Package, class)) {
+        Some(number) => number as usize,
+        None => 0,
     }
-    &name[..0]
-}
-
-/// The packages of the classes.
-fn package_names(alloc: Global, classes: &[ClassInfo]) -> Result<List<Units>, NoMemory>
-    ensures { IfOk result (λ names. names ≡ map name_package classes.now) }
-{
-    let mut names = List::new(alloc);
-    for class in classes {
-        names.push(Units::from_slice(alloc, package(class.name.as_slice()))?)?;
-    }
-    Ok(names)
 }
 
 /// For each class the number of its package.
 pub(crate) fn packages(alloc: Global, classes: &[ClassInfo]) -> Result<List<usize>, NoMemory>
+    requires { length classes.now ≤ 16777216 }
     ensures { IfOk result (λ packages. ArePackages classes.now packages) }
 {
-    let names = package_names(alloc, classes)?;
-    let mut known = Numbers::new(alloc);
+    let alike = alike(alloc, By::Package, classes)?;
     let mut packages = List::new(alloc);
-    for name in names.as_slice() {
-        packages.push(known.number(name)?)?;
+    for class in classes {
+        packages.push(package_number(classes, &alike, class))?;
     }
     Ok(packages)
 }

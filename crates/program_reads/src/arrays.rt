@@ -35,7 +35,7 @@ fn is_of_kind(info: &ClassInfo, kind: u8) -> bool
     ensures { result ≡ is_of_kind kind info.now }
 {
     match &info.array {
-        Some(array) => array.dims == 1 && kind_number(&array.elem) == kind,
+        Some(array) => array.dims == 1 && kind_number(array.elem.get()) == kind,
         None => false,
     }
 }

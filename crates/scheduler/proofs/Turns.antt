@@ -1,7 +1,8 @@
 -- What comes of a step, of one that was refused, and of a run's end.
 use Rattle.std.proofs.Common.{◌≡◌, ◌≢◌, ℕ, zero, suc, ◌+◌, ◌<◌, ◌≤◌, false, List, [], ◌∷◌, ◌++◌, length, Option, Some, None, Result, Ok, Err, refl, sym, ap, ◌∙◌, subst, arith}
 use Rattle.std.specs.Prelude.{slice_get, OnOk, OnErr, IfOk}
-use Rattle.std.proofs.lemmas.List.{length_push}
+use Rattle.std.proofs.lemmas.List.{length-append, length_push}
+use Rattle.jvm_base.specs.declared.memory.NoMemory.{NoMemory}
 use Rattle.program_image.specs.Program.{Program}
 use Rattle.machine_state.specs.declared.served.Wish.TheVariants.{Fresh}
 use Rattle.machine_state.specs.declared.state.Choice.{Choice}
@@ -14,14 +15,15 @@ use Rattle.machine_state.specs.Start.{start}
 use Rattle.machine_state.specs.State.{State}
 use Rattle.machine_state.proofs.NameTests.{some_is}
 use Rattle.one_machine.specs.declared.taking.Took.{Took}
+use Rattle.one_machine.specs.Gliding.{Glides}
 use Rattle.one_machine.specs.Going as going
 use Rattle.one_machine.specs.Ready.{IsReady}
-use Rattle.scheduler.specs.Running.{Run, IsRun, IsTurn, LeadsOn, AreWithin, at_limit, max_threads}
+use Rattle.scheduler.specs.Running.{Run, IsRun, IsTurn, LeadsOn, GoesOn, AreWithin, at_limit, max_threads}
 use Rattle.scheduler.specs.Progress.{IsPassed, IsProgress}
 use Rattle.scheduler.specs.declared.run.Progress.TheVariants.{Stepped, Passed, Stops}
 use Rattle.scheduler.specs.declared.run.Stop.{Stop}
-use Rattle.scheduler.proofs.Runs.{leads_nowhere, leads_by_step}
-use Rattle.scheduler.proofs.Within.{step_within}
+use Rattle.scheduler.proofs.Runs.{leads_nowhere, leads_by_step, leads_further, goes_further}
+use Rattle.scheduler.proofs.Within.{glided_few, glided_within, step_within}
 use Rattle.scheduler.proofs.Refusals.{refused_passes}
 
 -- what holds anyway holds where there is an error
@@ -96,6 +98,26 @@ step_progress p a b m l t index took from to o s =
       omega arith,
     )
 
+-- ---- steps in a row
+
+-- steps of the thread in turn that touch its frame alone
+pub glided_run : (p : Program) (a b : Run) (m l : State) (t most n : ℕ) → a.machine.state ≡ m
+    → b.machine.state ≡ l → b.limit ≡ a.limit → IsRun p a → Glides p m t most a.limit n l
+    → IsReady p b.machine → IsRun p b
+glided_run p a b m l t most n from to same run g ready = record {
+  ready = ready;
+  within = subst (λ (s : State). AreWithin b.limit s) (sym (to ∙ g.shared))
+      (subst (λ (k : ℕ). AreWithin k (record m { threads = l.threads })) (sym same)
+      (glided_within p t most a.limit n m l.threads (slice_get m.threads t) refl g.threads
+      (subst (λ (s : State). AreWithin a.limit s) from run.within)));
+  few =
+      let count : length b.machine.state.threads ≡ length a.machine.state.threads =
+      ap (λ (s : State). length s.threads) to
+      ∙ (glided_few p t most a.limit n m.threads l.threads (slice_get m.threads t) g.threads
+      ∙ ap (λ (s : State). length s.threads) (sym from)) in
+      omega (arith, run.few);
+}
+
 -- ---- no step
 
 -- the run stands as before
@@ -131,3 +153,37 @@ pub turn_longer : (p : Program) (limit : ℕ) (before : List Choice) (r : Run) (
     → ((s : Stop) → o ≡ Some s → ⊥) → IsTurn p limit before r o → length before < length r.order
 turn_longer p limit before r None n t = t
 turn_longer p limit before r (Some s) n t = absurd (n s refl)
+
+-- ---- steps before others
+
+-- what came of some steps, came of them and of those before them
+turn_further : (p : Program) (limit : ℕ) (m l : State) (before between : List Choice) (r : Run)
+    (o : Option Stop) → LeadsOn p m before between l → IsTurn p limit between r o
+    → IsTurn p limit before r o
+turn_further p limit m l before between r None x t =
+    let more : length between ≡ length before + length x.more =
+    ap length x.order ∙ length-append before x.more in omega (arith, t)
+turn_further p limit m l before between r (Some s) x t = t
+
+-- so with a result of them
+pub turns_further : (p : Program) (limit now : ℕ) (m l : State) (before between : List Choice)
+    (r : Run) (o : Result (Option Stop) NoMemory) → LeadsOn p m before between l → now ≡ limit
+    → IfOk o (λ s. IsTurn p now between r s) → IfOk o (λ s. IsTurn p limit before r s)
+turns_further p limit now m l before between r (Ok s) x e t =
+    turn_further p limit m l before between r s x
+    (subst (λ (k : ℕ). IsTurn p k between r s) e t)
+turns_further p limit now m l before between r (Err s) x e t = tt
+
+-- they lead on
+pub lead_further : {E : Type 0} (p : Program) (m l n : State) (before between after : List Choice)
+    (o : Result E NoMemory) → LeadsOn p m before between l
+    → OnOk o (LeadsOn p l between after n) → OnOk o (LeadsOn p m before after n)
+lead_further p m l n before between after (Ok s) x t = leads_further x t
+lead_further p m l n before between after (Err s) x t = tt
+
+-- or are legal
+pub go_further : {E : Type 0} (p : Program) (m l : State) (before between after : List Choice)
+    (o : Result E NoMemory) → LeadsOn p m before between l
+    → OnErr o (GoesOn p l between after) → OnErr o (GoesOn p m before after)
+go_further p m l before between after (Ok s) x t = tt
+go_further p m l before between after (Err s) x t = goes_further x t

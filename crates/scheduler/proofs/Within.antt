@@ -1,6 +1,8 @@
 -- No thread takes more steps than it may.
-use Rattle.std.proofs.Common.{◌≡◌, ℕ, zero, suc, ◌+◌, ◌<◌, ◌≤◌, ◌⊎◌, inl, inr, Bool, false, not, ◌&&◌, nat_le, List, [], ◌∷◌, ◌++◌, Option, Some, None, refl, sym, ap, ◌∙◌, subst, arith}
+use Rattle.std.proofs.Common.{◌≡◌, ℕ, zero, suc, ◌+◌, ◌-◌, ◌<◌, ◌≤◌, ◌⊎◌, inl, inr, Bool, false, not, ◌&&◌, nat_le, List, [], ◌∷◌, ◌++◌, length, Option, Some, None, refl, sym, ap, ◌∙◌, subst, arith}
 use Rattle.std.specs.Prelude.{slice_get, slice_set}
+use Rattle.std.proofs.Math.Nat.{min-le_right}
+use Rattle.std.proofs.lemmas.List.{length-set}
 use Rattle.std.proofs.lemmas.Bool.Decides.{nat_tests}
 use Rattle.jvm_base.specs.Words.{from}
 use Rattle.program_image.specs.Program.{Program}
@@ -12,6 +14,7 @@ use Rattle.machine_state.specs.Changes.{Change, Made, SetsField, SetsElement, Se
 use Rattle.machine_state.specs.State.{State, is_ended}
 use Rattle.machine_state.specs.Step.{Taken, after, attempt, by_mode, moved_on, step, step_of, taken_by}
 use Rattle.machine_state.proofs.NameTests.{some_is}
+use Rattle.one_machine.specs.Gliding.{AreGlided, IsGlided}
 use Rattle.scheduler.specs.Running.{AreWithin, at_limit}
 
 -- ---- lists
@@ -121,3 +124,36 @@ step_within p limit m l c th k e a s u w =
     by_taken None h = absurd cc
     by_taken (Some j) h = subst (λ (x : State). AreWithin limit x) (some_is h)
         (moved_within limit m c.thread th j below w)
+
+-- ---- steps in a row
+
+-- a thread that stopped at its limit
+glided_below : (p : Program) (most limit n : ℕ) (old new : ThreadState) → old.steps ≤ limit
+    → IsGlided p most limit n old new → new.steps ≤ limit
+glided_below p most limit n old new below g =
+    let s : new.steps ≡ old.steps + n = ap (λ (x : ThreadState). x.steps) g.stepped in
+    omega (arith, below, g.moves.few, min-le_right most (limit - old.steps))
+
+-- and the others as they were
+pub glided_within : (p : Program) (t most limit n : ℕ) (m : State) (news : List ThreadState)
+    (o : Option ThreadState) → slice_get m.threads t ≡ o
+    → AreGlided p t most limit n m.threads news o → AreWithin limit m
+    → AreWithin limit (record m { threads = news })
+glided_within p t most limit n m news None at (none, same) w = λ u th e.
+    w u th (ap (λ (ts : List ThreadState). slice_get ts u) (sym same) ∙ e)
+glided_within p t most limit n m news (Some old) at (new, g, same) w = λ u th e.
+    by_case u th (set_cases m.threads t u new th
+    (ap (λ (ts : List ThreadState). slice_get ts u) (sym same) ∙ e))
+  where
+    by_case : (u : ℕ) (th : ThreadState) → (th ≡ new) ⊎ (slice_get m.threads u ≡ Some th)
+        → th.steps ≤ limit
+    by_case u th (inl e) = subst (λ (x : ThreadState). x.steps ≤ limit) (sym e)
+        (glided_below p most limit n old new (w t old at) g)
+    by_case u th (inr e) = w u th e
+
+-- there are as many threads
+pub glided_few : (p : Program) (t most limit n : ℕ) (olds news : List ThreadState)
+    (o : Option ThreadState) → AreGlided p t most limit n olds news o → length news ≡ length olds
+glided_few p t most limit n olds news None (none, same) = ap length same
+glided_few p t most limit n olds news (Some old) (new, g, same) =
+    ap length same ∙ length-set olds t new

@@ -18,7 +18,8 @@ use std::marker::Model;
 /// How many steps a thread takes before another one's turn.
 const TURN: u32 = 64;
 
-/// How many steps are taken before what was printed may be written.
+/// How many steps that do more than move on their frame are taken before what was printed may be
+/// written.
 const BURST: u32 = 4096;
 
 /// How many threads there may be.
@@ -175,6 +176,26 @@ impl Run {
         }
     }
 
+    /// Takes steps of the thread in turn that touch its frame alone, in a row: as many as are left of
+    /// its turn and of its steps, up to the first that does more.
+    fn glide(&mut self, image: &Image) -> Result<(), NoMemory>
+        requires { IsRun image.now self.old }
+        ensures run { OnOk result (IsRun image.now self.new) }
+        ensures later { OnOk result (LeadsOn image.now self.old.machine.state self.old.order
+            self.new.order self.new.machine.state) }
+        ensures limit { self.new.limit ≡ self.old.limit }
+        ensures err { OnErr result
+            (GoesOn image.now self.old.machine.state self.old.order self.new.order) }
+    {
+        let most = u64::from(self.left);
+        let order = &mut self.order;
+        let taken = self
+            .machine
+            .glide(image, self.thread, most, self.limit, order)?;
+        self.left -= taken as u32;
+        Ok(())
+    }
+
     /// The turn of the next thread that can take a step: it takes its first one.
     fn change_turn(&mut self, alloc: Global, image: &Image) -> Result<Option<Stop>, NoMemory>
         requires { IsRun image.now self.old }
@@ -204,7 +225,7 @@ impl Run {
     }
 
     /// Takes one step: of the thread in turn, or of the next one that can.
-    fn step(&mut self, alloc: Global, image: &Image) -> Result<Option<Stop>, NoMemory>
+    fn take_one(&mut self, alloc: Global, image: &Image) -> Result<Option<Stop>, NoMemory>
         requires { IsRun image.now self.old }
         ensures run { OnOk result (IsRun image.now self.new) }
         ensures later { OnOk result (LeadsOn image.now self.old.machine.state self.old.order
@@ -226,7 +247,24 @@ impl Run {
         self.change_turn(alloc, image)
     }
 
-    /// Takes steps, up to 4,096; `Some` where the run is at its end. Where memory runs out the
+    /// Takes steps: those of the thread in turn that touch its frame alone, and then one more.
+    fn step(&mut self, alloc: Global, image: &Image) -> Result<Option<Stop>, NoMemory>
+        requires { IsRun image.now self.old }
+        ensures run { OnOk result (IsRun image.now self.new) }
+        ensures later { OnOk result (LeadsOn image.now self.old.machine.state self.old.order
+            self.new.order self.new.machine.state) }
+        ensures turn { IfOk result
+            (λ o. IsTurn image.now self.old.limit self.old.order self.new o) }
+        ensures limit { self.new.limit ≡ self.old.limit }
+        ensures err { OnErr result
+            (GoesOn image.now self.old.machine.state self.old.order self.new.order) }
+    {
+        self.glide(image)?;
+        self.take_one(alloc, image)
+    }
+
+    /// Takes steps: up to 4,096 of any kind, and before each of them as many as its thread's turn has
+    /// that touch their frame alone. `Some` where the run is at its end. Where memory runs out the
     /// order is that of steps that were taken, and the run can't go on.
     pub fn burst(&mut self, alloc: Global, image: &Image) -> Result<Option<Stop>, NoMemory>
         requires { IsRun image.now self.old }

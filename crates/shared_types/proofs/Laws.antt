@@ -10,7 +10,8 @@ use Rattle.flow_types.proofs.TypeLaws.{type-antisym}
 use Rattle.flow_types.specs.TypeLists.{types_fit, types_joined, is_operand}
 use Rattle.flow_types.specs.declared.flow_type.FlowType.{FlowType}
 use Rattle.flow_types.specs.declared.flow_type.FlowType.TheVariants.{Unusable, Int, Long, High, Null, Class, Array, Fresh, FreshThis}
-use Rattle.shared_types.specs.Trees.{is_unusable, all_unusable, all_operands, longs, more_slots, AreReplaced}
+use Rattle.shared_types.specs.Blocks.{is_unusable, used_from, fits_if_there}
+use Rattle.shared_types.specs.Trees.{all_unusable, all_operands, longs, more_slots, AreReplaced}
 
 pub get_right : (xs ys : List FlowType) (i : ℕ) → length xs ≤ i → slice_get (xs ++ ys) i ≡ slice_get ys (i - length xs)
 get_right [] ys i h = let e : i - 0 ≡ i = omega arith in rw e refl
@@ -406,6 +407,54 @@ set_same (x ∷ xs) (suc i) t h = ap (λ zs. x ∷ zs) (set_same xs i t h)
 
 -- ---- blocks
 
+used_parts : (first : ℕ) (xs ys : List FlowType) → used_from first (xs ++ ys) ≡ used_from first xs ++ used_from (first + length xs) ys
+used_parts first [] ys = let e : first + 0 ≡ first = omega arith in rw e refl
+used_parts first (x ∷ xs) ys =
+    let e : first + length (x ∷ xs) ≡ suc first + length xs = omega arith in
+    rw e (elim (cases_Bool (is_unusable x)) [ inl q ↦ rw q (used_parts (suc first) xs ys) | inr q ↦ rw q (ap (λ ps. first ∷ ps) (used_parts (suc first) xs ys)) ])
+
+-- the places in use of one type more
+pub used_next : (i : ℕ) (t : FlowType) (xs : List FlowType) → slice_get xs i ≡ Some t → i < length xs → used_from 0 (take i xs) ++ used_from i (t ∷ []) ≡ used_from 0 (take (i + 1) xs)
+used_next i t xs e h =
+    let l : 0 + length (take i xs) ≡ i = omega (arith, length_first i xs (omega arith)) in
+    rw (sym (one_more i t xs e)) (sym (rw l at (used_parts 0 (take i xs) (t ∷ []))))
+
+-- the types at some places fit
+abbrev pub places_fit : List (Option ℕ) → List FlowType → List FlowType → List ℕ → Bool
+places_fit supers low high [] = true
+places_fit supers low high (p ∷ ps) = fits_if_there supers (slice_get low p) (slice_get high p) && places_fit supers low high ps
+
+-- a type in front of each list moves each place by one
+places_moved : (supers : List (Option ℕ)) (t u : FlowType) (low high xs : List FlowType) (first : ℕ) → places_fit supers (t ∷ low) (u ∷ high) (used_from (suc first) xs) ≡ places_fit supers low high (used_from first xs)
+places_moved supers t u low high [] first = refl
+places_moved supers t u low high (x ∷ xs) first =
+    elim (cases_Bool (is_unusable x)) [ inl q ↦ rw q (places_moved supers t u low high xs (suc first)) | inr q ↦ rw q (ap (λ b. fits_if_there supers (slice_get low first) (slice_get high first) && b) (places_moved supers t u low high xs (suc first))) ]
+
+none_fit : (supers : List (Option ℕ)) (ps : List ℕ) → places_fit supers [] [] ps ≡ true
+none_fit supers [] = refl
+none_fit supers (p ∷ ps) = none_fit supers ps
+
+fits_if_unusable : (supers : List (Option ℕ)) (t u : FlowType) → is_unusable u ≡ true → type_fits supers t u ≡ true
+fits_if_unusable supers t Unusable h = fits_unusable supers t
+fits_if_unusable supers t Int h = absurd cc
+fits_if_unusable supers t Long h = absurd cc
+fits_if_unusable supers t High h = absurd cc
+fits_if_unusable supers t Null h = absurd cc
+fits_if_unusable supers t (Class c) h = absurd cc
+fits_if_unusable supers t (Array d e) h = absurd cc
+fits_if_unusable supers t (Fresh a) h = absurd cc
+fits_if_unusable supers t FreshThis h = absurd cc
+
+-- types fit where they fit at the places of the second list that are in use
+pub used_fit : (supers : List (Option ℕ)) (n : ℕ) (low high : List FlowType) → length low ≡ length high → places_fit supers (take n low) (take n high) (used_from 0 high) ≡ types_fit supers (take n low) (take n high)
+used_fit supers zero low high h = none_fit supers (used_from 0 high)
+used_fit supers (suc n) [] [] h = refl
+used_fit supers (suc n) [] (y ∷ ys) h = absurd (omega arith)
+used_fit supers (suc n) (x ∷ xs) [] h = absurd (omega arith)
+used_fit supers (suc n) (x ∷ xs) (y ∷ ys) h =
+    let e : places_fit supers (x ∷ take n xs) (y ∷ take n ys) (used_from 1 ys) ≡ types_fit supers (take n xs) (take n ys) = places_moved supers x y (take n xs) (take n ys) ys 0 ∙ used_fit supers n xs ys (omega arith) in
+    elim (cases_Bool (is_unusable y)) [ inl q ↦ rw (q, fits_if_unusable supers x y q) e | inr q ↦ rw (q, e) refl ]
+
 fit_joined_one : (supers : List (Option ℕ)) (x y : FlowType) → IsTree supers → type_fits supers x y ≡ true → joined supers y x ≡ y
 fit_joined_one supers x y tree h =
     elim (cases_Bool (type_fits supers y x)) [ inl q ↦ rw q (type-antisym supers tree x y h q) | inr q ↦ rw (q, h) refl ]
@@ -421,9 +470,6 @@ fit_joined supers (x ∷ xs) (y ∷ ys) tree h =
 pub longs_next : (i : ℕ) (t : FlowType) (xs : List FlowType) → slice_get xs i ≡ Some t → longs (take (i + 1) xs) ≡ longs (take i xs) + more_slots t
 longs_next i t xs e = rw (sym (one_more i t xs e)) (let f : more_slots t + 0 ≡ more_slots t = omega arith in longs_parts (take i xs) (t ∷ []) ∙ ap (λ z. longs (take i xs) + z) f)
 
-pub kept_next : (was now : FlowType) (i : ℕ) (t : FlowType) (xs : List FlowType) → slice_get xs i ≡ Some t → (t ≡ was → ⊥) → AreReplaced was now (take i xs) (take i xs) → AreReplaced was now (take (i + 1) xs) (take (i + 1) xs)
-kept_next was now i t xs e h k = rw (sym (one_more i t xs e)) (replaced_parts was now (take i xs) (take i xs) (t ∷ []) (t ∷ []) k (inr (h, refl), tt))
-
 pub replaced_next : (was now : FlowType) (i : ℕ) (t u : FlowType) (xs out : List FlowType) → slice_get xs i ≡ Some t → AreReplaced was now (t ∷ []) (u ∷ []) → AreReplaced was now (take i xs) out → AreReplaced was now (take (i + 1) xs) (out ++ u ∷ [])
 replaced_next was now i t u xs out e f k =
     rw (sym (one_more i t xs e)) (replaced_parts was now (take i xs) out (t ∷ []) (u ∷ []) k f)
@@ -438,3 +484,61 @@ joined_next supers (suc i) t u (x ∷ xs) (y ∷ ys) e f =
 
 pub joined_more : (supers : List (Option ℕ)) (i : ℕ) (t u : FlowType) (xs ys out : List FlowType) → slice_get xs i ≡ Some t → slice_get ys i ≡ Some u → out ≡ types_joined supers (take i xs) (take i ys) → out ++ joined supers t u ∷ [] ≡ types_joined supers (take (i + 1) xs) (take (i + 1) ys)
 joined_more supers i t u xs ys out e f g = rw g (sym (joined_next supers i t u xs ys e f))
+
+-- ---- what the places in use tell of a block
+
+-- no place in use lies before the first type's
+used_least : (first p : ℕ) (xs : List FlowType) → slice_get (used_from first xs) 0 ≡ Some p → first ≤ p
+used_least first p [] e = absurd cc
+used_least first p (x ∷ xs) e =
+    elim (cases_Bool (is_unusable x)) [ inl q ↦ (let l : suc first ≤ p = used_least (suc first) p xs (rw q at e) in omega (arith, l)) | inr q ↦ (let d : Some first ≡ Some p = rw q at e in let g : first ≡ p = cc in omega (arith, g)) ]
+
+pub none_used : (first n : ℕ) (xs : List FlowType) → slice_get (used_from first xs) 0 ≡ None → all_unusable (take n xs) ≡ true
+none_used first zero xs e = refl
+none_used first (suc n) [] e = refl
+none_used first (suc n) (x ∷ xs) e =
+    elim (cases_Bool (is_unusable x)) [ inl q ↦ rw q (none_used (suc first) n xs (rw q at e)) | inr q ↦ (let d : Some first ≡ None = rw q at e in absurd cc) ]
+
+pub used_from_there : (first n p : ℕ) (xs : List FlowType) → slice_get (used_from first xs) 0 ≡ Some p → n + first ≤ p → all_unusable (take n xs) ≡ true
+used_from_there first zero p xs e h = refl
+used_from_there first (suc n) p [] e h = refl
+used_from_there first (suc n) p (x ∷ xs) e h =
+    elim (cases_Bool (is_unusable x)) [ inl q ↦ rw q (used_from_there (suc first) n p xs (rw q at e) (omega arith)) | inr q ↦ (let d : Some first ≡ Some p = rw q at e in let g : first ≡ p = cc in absurd (omega (arith, g))) ]
+
+pub used_before : (first n p : ℕ) (xs : List FlowType) → slice_get (used_from first xs) 0 ≡ Some p → p < n + first → all_unusable (take n xs) ≡ false
+used_before first zero p xs e h = let l : first ≤ p = used_least first p xs e in absurd (omega arith)
+used_before first (suc n) p [] e h = absurd cc
+used_before first (suc n) p (x ∷ xs) e h =
+    elim (cases_Bool (is_unusable x)) [ inl q ↦ rw q (used_before (suc first) n p xs (rw q at e) (omega arith)) | inr q ↦ rw q refl ]
+
+-- a type stands at none of these places
+abbrev pub LacksAt : FlowType → List FlowType → List ℕ → Type 0
+LacksAt t ts [] = Unit {0}
+LacksAt t ts (p ∷ ps) = (slice_get ts p ≡ Some t → ⊥) × LacksAt t ts ps
+
+pub lacks_next : (t : FlowType) (ts : List FlowType) (i p : ℕ) (ps : List ℕ) → slice_get ps i ≡ Some p → (slice_get ts p ≡ Some t → ⊥) → LacksAt t ts (take i ps) → LacksAt t ts (take (i + 1) ps)
+lacks_next t ts i p [] e h k = absurd cc
+lacks_next t ts zero p (q ∷ ps) e h k = let d : q ≡ p = cc in (rw d h, tt)
+lacks_next t ts (suc i) p (q ∷ ps) e h k = let d : suc i + 1 ≡ suc (i + 1) = omega arith in rw d (k.0, lacks_next t ts i p ps e h k.1)
+
+lacks_moved : (t x : FlowType) (ts xs : List FlowType) (first : ℕ) → LacksAt t (x ∷ ts) (used_from (suc first) xs) → LacksAt t ts (used_from first xs)
+lacks_moved t x ts [] first h = tt
+lacks_moved t x ts (y ∷ ys) first h =
+    elim (cases_Bool (is_unusable y)) [ inl q ↦ rw q (lacks_moved t x ts ys (suc first) (rw q at h)) | inr q ↦ (let k : LacksAt t (x ∷ ts) (suc first ∷ used_from (suc (suc first)) ys) = rw q at h in rw q (k.0, lacks_moved t x ts ys (suc first) k.1)) ]
+
+unusable_is : (t : FlowType) → is_unusable t ≡ true → t ≡ Unusable
+unusable_is Unusable h = refl
+unusable_is Int h = absurd cc
+unusable_is Long h = absurd cc
+unusable_is High h = absurd cc
+unusable_is Null h = absurd cc
+unusable_is (Class c) h = absurd cc
+unusable_is (Array d e) h = absurd cc
+unusable_is (Fresh a) h = absurd cc
+unusable_is FreshThis h = absurd cc
+
+-- where a type that isn't Unusable stands at no place in use, replacing it changes nothing
+pub lacks_kept : (was now : FlowType) (xs : List FlowType) → (was ≡ Unusable → ⊥) → LacksAt was xs (used_from 0 xs) → AreReplaced was now xs xs
+lacks_kept was now [] h k = tt
+lacks_kept was now (x ∷ xs) h k =
+    elim (cases_Bool (is_unusable x)) [ inl q ↦ (inr ((λ e. h (sym e ∙ unusable_is x q)), refl), lacks_kept was now xs h (lacks_moved was x xs xs 0 (rw q at k))) | inr q ↦ (let l : LacksAt was (x ∷ xs) (0 ∷ used_from 1 xs) = rw q at k in (inr ((λ e. l.0 (ap (λ z. Some z) e)), refl), lacks_kept was now xs h (lacks_moved was x xs xs 0 l.1))) ]

@@ -1,9 +1,10 @@
 -- What a tree of types stands for.
-use Rattle.std.specs.Prelude.{◌≡◌, ◌⊎◌, ◌≤◌, ℕ, ◌+◌, Bool, true, false, ◌&&◌, ◌==◌, List, [], ◌∷◌, ◌++◌, length, Option, Some, None}
+use Rattle.std.specs.Prelude.{◌≡◌, ◌⊎◌, ◌≤◌, ℕ, ◌+◌, Bool, true, ◌&&◌, ◌==◌, List, [], ◌∷◌, ◌++◌, length, Option, Some, None}
 use Rattle.std.proofs.Math.ListN.{replicate}
 use Rattle.flow_types.specs.TypeLists.{types_joined, is_operand}
 use Rattle.flow_types.specs.declared.flow_type.FlowType.{FlowType}
 use Rattle.flow_types.specs.declared.flow_type.FlowType.TheVariants as flow
+use Rattle.shared_types.specs.Blocks.{is_unusable}
 use Rattle.shared_types.specs.declared.tree.Tree.{Tree}
 use Rattle.shared_types.specs.declared.tree.Tree.TheVariants.{Unusable, Few, Pair'}
 use Rattle.shared_types.specs.declared.tree.Joined.{Joined}
@@ -44,11 +45,6 @@ AreReplaced was now (t ∷ ts) [] = ⊥
 abbrev pub IsReplaced : FlowType → FlowType → List FlowType → Option Tree → Type 0
 IsReplaced was now ts None = AreReplaced was now ts ts
 IsReplaced was now ts (Some t) = IsSized t × AreReplaced was now ts (types t)
-
--- a type is Unusable
-abbrev pub is_unusable : FlowType → Bool
-is_unusable flow.Unusable = true
-is_unusable _ = false
 
 -- each type is Unusable
 abbrev pub all_unusable : List FlowType → Bool

@@ -9,11 +9,9 @@ ghost use Rattle.flow_types.specs.declared.flow_type.FlowType.TheVariants as flo
 ghost use Rattle.shared_types.specs.declared.tree.Tree.{Tree};
 ghost use Rattle.shared_types.specs.Trees.{types, is_sized, IsSized, IsJoined, IsReplaced, all_unusable, all_operands, longs};
 
-use crate::block::{
-    all_fit, all_operands, all_unusable, alone, count_longs, first, has, joined, replaced, with,
-};
+use crate::block::Block;
 use flow_types::FlowType;
-use jvm_base::{List, NoMemory};
+use jvm_base::NoMemory;
 use program_image::Image;
 use shared_value::Shared;
 use std::alloc::Global;
@@ -27,7 +25,7 @@ const BLOCK: usize = 32;
 #[derive(Drop)]
 pub(crate) enum Tree {
     Unusable(usize),
-    Few(Shared<List<FlowType>>),
+    Few(Shared<Block>),
     Pair(Arc<Tree, Global>, usize, Arc<Tree, Global>),
 }
 
@@ -54,7 +52,7 @@ pub(crate) fn pair(alloc: Global, first: Tree, count: usize, second: Tree) -> Re
 }
 
 /// A tree of one block.
-fn few(alloc: Global, block: List<FlowType>) -> Result<Tree, NoMemory>
+fn few(alloc: Global, block: Block) -> Result<Tree, NoMemory>
     ensures types { IfOk result (λ t. types t ≡ block) }
     ensures sized { IfOk result (λ t. IsSized t) }
 {
@@ -70,7 +68,7 @@ fn one_of(alloc: Global, count: usize, at: usize, t: FlowType) -> Result<Tree, N
     ensures sized { IfOk result (λ tree. IsSized tree) }
 {
     if count <= BLOCK {
-        return few(alloc, alone(alloc, count, at, t)?);
+        return few(alloc, Block::alone(alloc, count, at, t)?);
     }
     let half = count / 2;
     if at < half {
@@ -83,36 +81,32 @@ fn one_of(alloc: Global, count: usize, at: usize, t: FlowType) -> Result<Tree, N
 }
 
 /// The types above those of two blocks. Where none rises it takes no memory.
-#[tactic(auto, using(crate::proofs::Laws::fit_joined))]
-fn join_blocks(
-    alloc: Global,
-    image: &Image,
-    high: &[FlowType],
-    low: &[FlowType],
-) -> Result<Joined, NoMemory>
+#[tactic(auto, using(crate::proofs::Laws::fit_joined, crate::proofs::Laws::all_taken))]
+fn join_blocks(alloc: Global, image: &Image, high: &Block, low: &Block) -> Result<Joined, NoMemory>
     requires tree { IsTree (superclasses image.now) }
     requires alike { length high.now ≡ length low.now }
     ensures { IfOk result (λ j. IsJoined (superclasses image.now) high.now low.now j) }
 {
-    if all_fit(image, low, high) {
+    if low.fit(image, high, high.len()) {
         return Ok(Joined::Same);
     }
-    Ok(Joined::New(few(alloc, joined(alloc, image, high, low)?)?))
+    Ok(Joined::New(few(alloc, high.joined(alloc, image, low)?)?))
 }
 
 /// A block with another type in place of each copy of one.
 fn replace_block(
     alloc: Global,
-    block: &[FlowType],
+    block: &Block,
     was: FlowType,
     now: FlowType,
 ) -> Result<Option<Tree>, NoMemory>
+    requires { was ≡ flow.Unusable → ⊥ }
     ensures { IfOk result (λ o. IsReplaced was now block.now o) }
 {
-    if !has(block, was) {
+    if !block.has(was) {
         return Ok(None);
     }
-    Ok(Some(few(alloc, replaced(alloc, block, was, now)?)?))
+    Ok(Some(few(alloc, block.replaced(alloc, was, now)?)?))
 }
 
 /// What a pair's parts are joined to, as a tree of both.
@@ -230,7 +224,7 @@ impl Tree {
                     None
                 }
             }
-            Tree::Few(block) => block.get().get(at).copied(),
+            Tree::Few(block) => block.get().get(at),
             Tree::Pair(first, count, second) => {
                 if at < *count {
                     first.get(at)
@@ -251,7 +245,7 @@ impl Tree {
     {
         match self {
             Tree::Unusable(count) => one_of(alloc, *count, at, t),
-            Tree::Few(block) => few(alloc, with(alloc, block.get().as_slice(), at, t)?),
+            Tree::Few(block) => few(alloc, block.get().set(alloc, at, t)?),
             Tree::Pair(first, count, second) => {
                 if at < *count {
                     let first = Arc::new(alloc, first.set(alloc, at, t)?)?;
@@ -272,7 +266,7 @@ impl Tree {
     {
         match self {
             Tree::Unusable(_) => true,
-            Tree::Few(block) => all_unusable(first(block.get().as_slice(), n)),
+            Tree::Few(block) => block.get().are_unusable(n),
             Tree::Pair(first, count, second) => {
                 first.are_unusable(n) && (n <= *count || second.are_unusable(n - *count))
             }
@@ -296,11 +290,7 @@ impl Tree {
         match self {
             Tree::Unusable(_) => Some(high.are_unusable(n)),
             Tree::Few(low) => match high {
-                Tree::Few(up) => Some(all_fit(
-                    image,
-                    first(low.get().as_slice(), n),
-                    first(up.get().as_slice(), n),
-                )),
+                Tree::Few(up) => Some(low.get().fit(image, up.get(), n)),
                 _ => None,
             },
             Tree::Pair(first, count, second) => match high {
@@ -326,7 +316,7 @@ impl Tree {
     {
         match self {
             Tree::Unusable(count) => n == 0 || *count == 0,
-            Tree::Few(block) => all_operands(first(block.get().as_slice(), n)),
+            Tree::Few(block) => block.get().are_operands(n),
             Tree::Pair(first, count, second) => {
                 first.are_operands(n) && (n <= *count || second.are_operands(n - *count))
             }
@@ -341,7 +331,7 @@ impl Tree {
     {
         match self {
             Tree::Unusable(_) => 0,
-            Tree::Few(block) => count_longs(first(block.get().as_slice(), n)),
+            Tree::Few(block) => block.get().longs(n),
             Tree::Pair(first, count, second) => {
                 if n <= *count {
                     first.longs(n)
@@ -368,9 +358,7 @@ impl Tree {
         match low {
             Tree::Unusable(count) => Ok(Joined::New(Tree::Unusable(*count))),
             Tree::Few(b) => match self {
-                Tree::Few(a) => {
-                    join_blocks(alloc, image, a.get().as_slice(), b.get().as_slice())
-                }
+                Tree::Few(a) => join_blocks(alloc, image, a.get(), b.get()),
                 _ => Ok(Joined::Unlike),
             },
             Tree::Pair(under, other, below) => match self {
@@ -398,7 +386,7 @@ impl Tree {
     {
         match self {
             Tree::Unusable(_) => Ok(None),
-            Tree::Few(block) => replace_block(alloc, block.get().as_slice(), was, now),
+            Tree::Few(block) => replace_block(alloc, block.get(), was, now),
             Tree::Pair(first, count, second) => {
                 let before = first.replace(alloc, was, now)?;
                 let after = second.replace(alloc, was, now)?;

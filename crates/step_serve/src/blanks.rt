@@ -141,7 +141,7 @@ pub(crate) fn element_zero(image: &Image, class: u32) -> Value
         return Value::Null;
     }
     match &image.class(class).array {
-        Some(array) if array.dims == 1 => elem_zero(&array.elem),
+        Some(array) if array.dims == 1 => elem_zero(array.elem.get()),
         _ => Value::Null,
     }
 }

@@ -4,7 +4,7 @@ use Rattle.program_image.specs.declared.image.Image.TheInside.{Inside}
 use Rattle.program_image.specs.Program.{Program}
 use Rattle.program_image.specs.Built.Ancestry.{IsAncestry}
 use Rattle.program_image.specs.Built.Members.{IsMembers}
-use Rattle.program_image.specs.Built.Names.{AreNames}
+use Rattle.program_image.specs.Built.Alike.{AreNames}
 
 -- the program that an image is
 abbrev pub program_of : Inside → Program

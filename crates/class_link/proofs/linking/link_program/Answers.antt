@@ -95,3 +95,9 @@ pub returns-clause-ranked : goal.returns-clause-ranked
 returns-clause-ranked c =
     let program = c.in_ok-program.ensures.program ∙ ap (λ z. z ++ c.args.files.now) c.requires.boot in
     (c.in_ok-ranks.ranks, subst (λ z. IsRanked (above_rows z) c.in_ok-ranks.ranks) program c.in_ok-ranks.ensures.ranked)
+
+-- memory ran out
+pub returns-in_err-image-clause-answer : goal.returns-in_err-image-clause-answer
+returns-in_err-image-clause-answer c =
+    let p = err_from_is_err_and c.from_residual-in_err-image.result c.from_residual-in_err-image.ensures.1 in
+    rw (p.1, p.2) tt

@@ -1,5 +1,6 @@
 use Rattle.std.proofs.Common.{◌+◌, ◌≤◌}
 use Rattle.flow_verifier.specs.Typing.{most_steps}
+use Rattle.flow_verifier.specs.Catching.{IsCatching}
 use Rattle.flow_verifier.specs.Going.{IsMarked, IsGoing}
 use Rattle.flow_verifier.specs.Potential.{steps_left, turns_left}
 use Rattle.flow_verifier.proofs.solver.solve.Given as goal
@@ -8,6 +9,7 @@ abbrev pub invariant-loop-at : goal.invariant-loop-at
 invariant-loop-at g l = record {
   going : IsGoing l.image l.m l.rising.frames l.rising.todo;
   marked : IsMarked l.rising;
+  catching : IsCatching l.image l.m l.rising.frames l.rising.catches;
   cost : l.steps + steps_left l.image l.m l.rising.frames l.rising.todo ≤ l.initial.steps + most_steps l.image l.m;
 }
 

@@ -3,4 +3,4 @@ use Rattle.shared_types.specs.Trees.{AreReplaced}
 use Rattle.shared_types.proofs.block.replaced.Given as goal
 
 abbrev pub invariant-loop-i : goal.invariant-loop-i
-invariant-loop-i l = AreReplaced l.was l.now (take l.i l.block) l.out
+invariant-loop-i l = AreReplaced l.was l.now (take l.i l.types) l.out

@@ -14,4 +14,5 @@ returns c =
             ∙ sym (ap length c.set.ensures ∙ set-length c.in_ok-frames.frames 0 (Some c.in_ok-entry.field-0) ∙ ap length c.in_ok-frames.ensures ∙ length-replicate n None);
         flags = none-flagged c.in_ok-queued.queued n c.push.new.self c.in_ok-queued.ensures;
       };
+      uncaught = c.in_ok-catches.ensures;
     }

@@ -1,7 +1,0 @@
-use Rattle.std.proofs.Common.{◌≡◌, ◌++◌, drop}
-use Rattle.std.specs.Prelude.{map}
-use Rattle.flow_verifier.specs.Given.{jump_edges}
-use Rattle.flow_verifier.proofs.edges.push_pairs.Given as goal
-
-abbrev pub invariant-loop-k : goal.invariant-loop-k
-invariant-loop-k l = l.out ++ jump_edges l.ops (map (λ p. p.1) (drop l.k l.pairs)) ≡ l.initial.out ++ jump_edges l.ops (map (λ p. p.1) l.pairs)
