@@ -16,7 +16,7 @@ WIDTH = 92
 # putstatic, putfield
 CUT_STORES = re.compile(b"[\x91\x92\x93](?=[\x54\x55\x56\xb3\xb5])")
 # the files whose casts are taken out, and how many each has
-WITHOUT_CASTS = {"Stores": 7}
+WITHOUT_CASTS = {"Stores": 7, "Cuts": 9}
 
 
 def without_casts(name, data):

@@ -5,7 +5,8 @@ use Rattle.std.specs.Result.{IsOk}
 use Rattle.std.proofs.Math.Seq.{take-length}
 use Rattle.std.proofs.lemmas.Option.{slice_get_within}
 use Rattle.cjvm_io.specs.Shelves.{Files}
-use Rattle.cjvm_io.specs.Sinks.{Showing}
+use Rattle.cjvm_io.specs.Sinks.{Showing, GainsFront}
+use Rattle.std.specs.Io.KnownBytes.{Appends}
 use Rattle.class_format.specs.Meaning.{IsClass}
 use Rattle.class_format.proofs.Recursion.{all_of}
 use Rattle.command_words.specs.declared.words.Command.{Command}
@@ -27,10 +28,10 @@ use Rattle.one_jvm.specs.declared.outcome.Stop.TheVariants as stop
 use Rattle.one_jvm.specs.declared.outcome.Refusal.{Refusal}
 use Rattle.one_jvm.specs.declared.outcome.Refusal.TheVariants.{Usage, File, Link, Flow, NoFile, ReadFault, WriteFault, TooLong, NoMemory, BadOrder, NotEnabled, EarlyOrder}
 use Rattle.one_jvm.specs.Words.{Asked, IsCall, IsNoCall, AskFor, IsRun, IsCheck, IsReplay, ShowsOrder, name_at}
-use Rattle.one_jvm.specs.Replays.{Replayed, IsBadOrder, IsNotEnabled, IsEarly, StandsAs, EndsAs, PrintsAll, PrintsFront}
+use Rattle.one_jvm.specs.Replays.{Replayed, IsBadOrder, IsNotEnabled, IsEarly, StandsAs, EndsAs, PrintsAll, PrintsPart}
 use Rattle.one_jvm.specs.Verdicts.{IsMissing, IsLong, IsRefusedFile, Names, StopsAt, main_of, AreRefused, AreUntyped, IsProgram, IsReplayed, Replays, HasReplay, IsVerdict}
 use Rattle.one_jvm.specs.Outcomes.{place_of, ending_text}
-use Rattle.one_jvm.specs.Answers.{Faults, the_faults, IsAny, IsHindered, Because, Wrote, Says, PrintedAll, PrintedFront, ComesFirst, Ran, Accepts, IsAccepted, IsJob, IsUnwritten, refusal_of, IsToldText, IsNamed, TellsReplay, IsEndText, IsSubject, IsShownText}
+use Rattle.one_jvm.specs.Answers.{Faults, the_faults, IsAny, IsHindered, Because, Wrote, Says, PrintedAll, PrintedFront, PrintedSome, ComesFirst, Ran, Accepts, IsAccepted, IsJob, IsUnwritten, refusal_of, IsToldText, IsNamed, TellsReplay, IsEndText, IsSubject, IsShownText}
 use Rattle.one_jvm.specs.Steps.Loading.{AreFound, RefusesProgram, LoadFails, HasToldText, HasNoProgram}
 use Rattle.one_jvm.specs.Steps.Parts.{IsMisread, IsNamedBy}
 use Rattle.one_jvm.specs.Steps.ReplaySteps.{tape, IsWholeTape, IsStuckTape, IsPartTape, TellsTape, ReplayComesTo}
@@ -350,9 +351,9 @@ module _ (words : List (List ℕ)) (told : Option Files) (a : Asked) (call : IsC
       written = w.written;
     }
 
-    -- a front of it was
-    front_printed : (order : List Choice) → IsOrderText r.text order → IsPartTape (tape r.program r.args order) before.held now.held → PrintsFront before.held now.held r
-    front_printed order s w = record { order = order; text = s; taken = w.taken; last = w.last; follows = w.leads; written = w.written }
+    -- so much of it was
+    part_printed : (Gains : Option (List ℕ) → Option (List ℕ) → List ℕ → Type 0) (order : List Choice) → IsOrderText r.text order → IsPartTape Gains (tape r.program r.args order) before.held now.held → PrintsPart Gains before.held now.held r
+    part_printed Gains order s w = record { order = order; text = s; taken = w.taken; last = w.last; follows = w.leads; written = w.written }
 
     -- the replay came to its end
     judged_end : (s : Stop) (text : List ℕ) (order : List Choice) → IsOrderText r.text order → IsWholeTape (TellsTape s text) (tape r.program r.args order) before.held now.held → IsJudged words told faults_then before now [] None (Some s) None text [] []
@@ -413,10 +414,10 @@ module _ (words : List (List ℕ)) (told : Option Files) (a : Asked) (call : IsC
         (has (PrintsAll before.held now.held) (all_printed c.order c.spells c.comes)) tt refl
     judged_replay end (Some WriteFault) text c =
         judged_stop end WriteFault text (inr (record { hindrance = WriteFault; strikes = ((a, call), c.comes.1); shows = refl }))
-        (inr (inr (has (PrintsFront before.held now.held) (front_printed c.order c.spells c.comes.0)))) tt refl
+        (inr (inr (has (PrintsPart GainsFront before.held now.held) (part_printed GainsFront c.order c.spells c.comes.0)))) tt refl
     judged_replay end (Some NoMemory) text (inl same) = judged_stop end NoMemory text judged_lost_replay (inl same) tt refl
     judged_replay end (Some NoMemory) text (inr c) =
-        judged_stop end NoMemory text judged_lost_replay (inr (has (PrintsFront before.held now.held) (front_printed c.order c.spells c.comes))) tt refl
+        judged_stop end NoMemory text judged_lost_replay (inr (has (PrintsPart Appends before.held now.held) (part_printed Appends c.order c.spells c.comes))) tt refl
     judged_replay end (Some Usage) text c = absurd c.comes
     judged_replay end (Some (File k why)) text c = absurd c.comes
     judged_replay end (Some (Link e)) text c = absurd c.comes
@@ -528,9 +529,9 @@ subject told words order stop (Some EarlyOrder) text s t h = h
 
 -- ---- a fault of standard error
 
--- where a replay printed all that it could, it printed a front of that
-all_is_front : (words : List (List ℕ)) (told : Option Files) (before now : Showing) → PrintedAll words told before now → PrintedFront words told before now
-all_is_front words told before now n =
+-- where a replay printed all that some first choices print, it printed a front of that
+some_is_front : (words : List (List ℕ)) (told : Option Files) (before now : Showing) → PrintedSome words told before now → PrintedFront words told before now
+some_is_front words told before now n =
     let p = n.such.such in
     record {
       asked = n.asked;
@@ -544,11 +545,28 @@ all_is_front words told before now n =
       };
     }
 
+-- so where it printed all that it could
+all_is_front : (words : List (List ℕ)) (told : Option Files) (before now : Showing) → PrintedAll words told before now → PrintedFront words told before now
+all_is_front words told before now n =
+    let p = n.such.such in
+    some_is_front words told before now
+    (record {
+      asked = n.asked;
+      is_call = n.is_call;
+      contents = n.contents;
+      under = n.under;
+      such = record {
+        replayed = n.such.replayed;
+        is = n.such.is;
+        such = record { order = p.order; text = p.text; taken = p.taken; last = p.last; follows = p.follows; written = p.written };
+      };
+    })
+
 -- it changes nothing of what standard output gained
 wrote_hidden : (words : List (List ℕ)) (told : Option Files) (before now : Showing) (e : Refusal) → Wrote words told before now (Some e) → Wrote words told before now (Some WriteFault)
 wrote_hidden words told before now WriteFault w = w
 wrote_hidden words told before now NoMemory (inl same) = inl same
-wrote_hidden words told before now NoMemory (inr w) = inr (inr w)
+wrote_hidden words told before now NoMemory (inr w) = inr (inr (some_is_front words told before now w))
 wrote_hidden words told before now (NotEnabled k) w = inr (inr (all_is_front words told before now w))
 wrote_hidden words told before now EarlyOrder w = inr (inr (all_is_front words told before now w))
 wrote_hidden words told before now Usage w = inl w

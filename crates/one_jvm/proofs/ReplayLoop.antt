@@ -1,5 +1,6 @@
 -- The loop of a replay.
 use Rattle.std.proofs.Common.{◌≡◌, ◌⊎◌, ℕ, ◌≤◌, List, [], ◌++◌, length, take, drop, Option, Some, None, Result, Ok, Err, refl, sym, ap, subst, ◌∙◌, inl, inr, arith}
+use Rattle.std.specs.Prelude.{IfOk}
 use Rattle.std.specs.Io.KnownBytes.{Appends}
 use Rattle.std.proofs.Math.Seq.{take-length}
 use Rattle.cjvm_io.specs.Faults.{Rose}
@@ -24,8 +25,10 @@ use Rattle.one_jvm.specs.declared.running.Broken.TheVariants as broken
 use Rattle.one_jvm.specs.declared.replaying.Takes.{Takes}
 use Rattle.one_jvm.specs.Answers.{ComesFirst}
 use Rattle.one_jvm.specs.Replays.{Replayed, IsBadOrder, StandsAs}
-use Rattle.one_jvm.specs.Steps.ReplaySteps.{Tape, tape, Leads, IsTakesOf, Writes, Breaks, Turned, IsWholeTape, IsPartTape, TellsTape, TapeComesTo, ReplayComesTo, IsEndTold, IsEndFor, refusal_by}
-use Rattle.one_jvm.proofs.RunLaws.{run_none, run_on, start_silent, run_grows, printed_behind, grows_longer, whole_front, no_front, front_behind}
+use Rattle.one_jvm.specs.Steps.ReplaySteps.{Tape, tape, Leads, IsTakesOf, Writes, Breaks, Turned, ending_at, IsWholeTape, IsPartTape, TellsTape, TapeComesTo, ReplayComesTo, IsEndTold, IsEndFor, refusal_by}
+use Rattle.one_jvm.proofs.RunLaws.{run_none, GainsBehind, front_behind, all_behind}
+use Rattle.scheduler.proofs.Printing.{start_silent, run_grows, printed_behind, grows_longer}
+use Rattle.scheduler.proofs.Runs.{run_append}
 
 -- what holds each time the loop begins
 pub record GoesOn (t : Tape) (takes : Takes) (before now : Option (List ℕ)) (faults_before faults : ℕ) : Type 0 where
@@ -62,8 +65,13 @@ begins t replay held faults ready begun none =
     }
 
 -- no step was taken, and nothing was written
-unbegun : (t : Tape) (held : Option (List ℕ)) → IsPartTape t held held
-unbegun t held = record { taken = 0; last = start t.program t.args; leads = starts t; written = no_front held (start t.program t.args).output }
+unbegun : (t : Tape) (held : Option (List ℕ)) → IsPartTape Appends t held held
+unbegun t held = record {
+  taken = 0;
+  last = start t.program t.args;
+  leads = starts t;
+  written = subst (λ (bytes : List ℕ). Appends held held bytes) (sym (start_silent t.program t.args)) (appends_none held);
+}
 
 -- memory ran out before
 pub lost_tape : (t : Tape) (held : Showing) (end : Option Stop) (refusal : Option Refusal) (text : List ℕ) → refusal ≡ Some NoMemory → TapeComesTo t held held end refusal text
@@ -80,7 +88,7 @@ module _ (t : Tape) (old new : Takes) (is : IsTakesOf t old) (on : TakesOn t.pro
   leads_on : Leads t new.replay.taken new.replay.machine.state
   leads_on = record {
     within = on.few;
-    leads = ap (from_start t) on.leads.order ∙ run_on t.program (start t.program t.args) old.replay.machine.state (take old.replay.taken t.order) on.leads.more is.leads.leads ∙ on.leads.leads;
+    leads = ap (from_start t) on.leads.order ∙ run_append t.program (start t.program t.args) old.replay.machine.state (take old.replay.taken t.order) on.leads.more is.leads.leads ∙ on.leads.leads;
   }
 
   -- what was printed since
@@ -94,19 +102,15 @@ module _ (t : Tape) (old new : Takes) (is : IsTakesOf t old) (on : TakesOn t.pro
   unwritten : drop old.written new.replay.machine.state.output ≡ since
   unwritten = printed_behind old.replay.machine.state new.replay.machine.state (run_grows t.program old.replay.machine.state new.replay.machine.state on.leads.more on.leads.leads) old.written is.written
 
-  -- memory ran out
-  pub lost : (held : Option (List ℕ)) → Breaks t old held held
-  lost held = record { taken = new.replay.taken; last = new.replay.machine.state; leads = leads_on; printed = since; output = since_is; gained = no_front held since }
-
-  -- a write of it failed
-  pub fault : (piece : List ℕ) (before now : Option (List ℕ)) → piece ≡ drop old.written new.replay.machine.state.output → GainsFront before now piece → Breaks t old before now
-  fault piece before now e g = record {
+  -- so much of it was written
+  pub breaks : (Gains : Option (List ℕ) → Option (List ℕ) → List ℕ → Type 0) (piece : List ℕ) (before now : Option (List ℕ)) → piece ≡ drop old.written new.replay.machine.state.output → Gains before now piece → Breaks Gains t old before now
+  breaks Gains piece before now e g = record {
     taken = new.replay.taken;
     last = new.replay.machine.state;
     leads = leads_on;
     printed = since;
     output = since_is;
-    gained = subst (GainsFront before now) (e ∙ unwritten) g;
+    gained = subst (Gains before now) (e ∙ unwritten) g;
   }
 
   -- it was written
@@ -117,6 +121,11 @@ module _ (t : Tape) (old new : Takes) (is : IsTakesOf t old) (on : TakesOn t.pro
     output = since_is;
     gained = subst (Appends before now) (e ∙ unwritten) g;
   }
+
+  -- a turn all of whose output was written
+  pub turned_by : {E : Type 0} (o : Result (Option Ending) E) → IfOk o (IsTaken t.program t.order old.replay new.replay) → (piece : List ℕ) (before now : Showing) → piece ≡ drop old.written new.replay.machine.state.output → Appends before.held now.held piece → IsReady t.program new.replay.machine → new.written ≡ length new.replay.machine.state.output → Turned t old new before now (ending_at o)
+  turned_by (Ok e) turn piece before now at g ready w = (wrote piece before.held now.held at g ready w, turn)
+  turned_by (Err x) turn piece before now at g ready w = breaks Appends piece before.held now.held at g
 
 -- ---- the loop
 
@@ -129,12 +138,12 @@ turned t old new before mid now f g h o w l = record {
 }
 
 -- in a turn that a fault cut off
-broken_off : (t : Tape) (old : Takes) (before mid now : Option (List ℕ)) (f g : ℕ) → GoesOn t old before mid f g → Breaks t old mid now → IsPartTape t before now
-broken_off t old before mid now f g o b = record {
+broken_off : (Gains : Option (List ℕ) → Option (List ℕ) → List ℕ → Type 0) (t : Tape) (old : Takes) (before mid now : Option (List ℕ)) (f g : ℕ) → GainsBehind Gains → GoesOn t old before mid f g → Breaks Gains t old mid now → IsPartTape Gains t before now
+broken_off Gains t old before mid now f g behind o b = record {
   taken = b.taken;
   last = b.last;
   leads = b.leads;
-  written = front_behind before mid now old.replay.machine.state.output b.printed b.last.output b.output o.gained b.gained;
+  written = behind before mid now old.replay.machine.state.output b.printed b.last.output b.output o.gained b.gained;
 }
 
 -- a later count is above, too
@@ -146,8 +155,8 @@ pub cut_tape : (t : Tape) (old new : Takes) (before mid now : Showing) (b : Brok
 cut_tape t old new before mid now b end refusal text o h e = subst (λ (v : Option Refusal). TapeComesTo t before now end v text) (sym e) (by_fault b h)
   where
     by_fault : (b : Broken) → Turned t old new mid now (Err b) → TapeComesTo t before now end (Some (refusal_by b)) text
-    by_fault broken.WriteFault h = (broken_off t old before.held mid.held now.held before.faults mid.faults o h.0, rose_by before.faults mid.faults now.faults o.later h.1)
-    by_fault broken.NoMemory h = broken_off t old before.held mid.held now.held before.faults mid.faults o h
+    by_fault broken.WriteFault h = (broken_off GainsFront t old before.held mid.held now.held before.faults mid.faults front_behind o h.0, rose_by before.faults mid.faults now.faults o.later h.1)
+    by_fault broken.NoMemory h = broken_off Appends t old before.held mid.held now.held before.faults mid.faults all_behind o h
 
 -- ---- the end of a tape
 
@@ -162,8 +171,8 @@ module _ (t : Tape) (takes : Takes) (before now : Showing) (f h : ℕ) (o : Goes
   }
 
   -- some were
-  part : IsPartTape t before.held now.held
-  part = record { taken = takes.replay.taken; last = takes.replay.machine.state; leads = o.so_far.leads; written = whole_front before.held now.held takes.replay.machine.state.output o.gained }
+  part : IsPartTape Appends t before.held now.held
+  part = record { taken = takes.replay.taken; last = takes.replay.machine.state; leads = o.so_far.leads; written = o.gained }
 
   -- all were, and no step follows
   told : (s : Stop) (end : Option Stop) (refusal : Option Refusal) (text : List ℕ) → takes.replay.taken ≡ length t.order → StandsAs s t.program takes.replay.machine.state → IsEndTold t.program takes.replay.machine.state.uncaught s end refusal text → TapeComesTo t before now end refusal text

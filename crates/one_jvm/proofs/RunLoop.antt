@@ -1,11 +1,12 @@
 -- The loop of a run.
-use Rattle.std.proofs.Common.{◌≡◌, ℕ, ◌≤◌, List, [], ◌++◌, length, drop, Option, Some, None, Result, Ok, Err, refl, sym, ap, subst, ◌∙◌, arith}
-use Rattle.std.specs.Prelude.{option_map, Vec, IfOk}
+use Rattle.std.proofs.Common.{◌≡◌, ℕ, ◌≤◌, List, [], ◌++◌, length, drop, take, Option, Some, None, Result, Ok, Err, refl, sym, ap, subst, ◌∙◌, arith}
+use Rattle.std.specs.Prelude.{option_map, Vec, IfOk, OnOk, OnErr}
 use Rattle.std.specs.Io.KnownBytes.{Appends}
 use Rattle.jvm_base.specs.declared.value.Uncaught.{Uncaught}
 use Rattle.machine_state.specs.declared.state.Choice.{Choice}
 use Rattle.machine_state.specs.Runs as runs
 use Rattle.machine_state.specs.State.{State}
+use Rattle.program_image.specs.Program.{Program}
 use Rattle.scheduler.specs.declared.run.Stop.{Stop as End}
 use Rattle.scheduler.specs.declared.run.Stop.TheVariants as end
 use Rattle.scheduler.specs.Running.{Run, IsRun, LeadsOn, GoesOn as MayGoOn, IsStop, IsTurn}
@@ -18,8 +19,11 @@ use Rattle.one_jvm.specs.declared.running.Turns.{Turns}
 use Rattle.one_jvm.specs.Answers.{TellsEnd}
 use Rattle.one_jvm.specs.Outcomes.{ending_text}
 use Rattle.one_jvm.specs.Runs.{Job, start_of, LeadsTo, IsEnd, IsWhole, IsPart, RanTo}
-use Rattle.one_jvm.specs.Steps.RunSteps.{IsRunOf, Writes, Breaks, GoesTo, TellsWhole, stop_of}
-use Rattle.one_jvm.proofs.RunLaws.{run_none, run_on, one_last, start_silent, run_grows, printed_behind, grows_longer, whole_front, no_front, front_behind}
+use Rattle.one_jvm.specs.Steps.RunSteps.{IsRunOf, Writes, Breaks, GoesTo, Turned, TellsWhole, stop_at, stop_of}
+use Rattle.one_jvm.proofs.RunLaws.{run_none, one_last, GainsBehind, front_behind, all_behind}
+use Rattle.scheduler.proofs.Printing.{start_silent, run_grows, printed_behind, grows_longer}
+use Rattle.scheduler.proofs.Breaks.{all_told}
+use Rattle.scheduler.proofs.Runs.{run_append}
 
 -- what holds each time the loop begins
 pub record GoesOn (j : Job) (turns : Turns) (before now : Option (List ℕ)) (faults_before faults : ℕ) : Type 0 where
@@ -46,64 +50,73 @@ begins j run held faults is begun none limit =
     }
 
 -- no run was begun, and nothing was written
-pub unbegun : (j : Job) (held : Option (List ℕ)) → IsPart j [] held held
-unbegun j held = record { last = start_of j; leads = run_none j.program (start_of j); written = no_front held (start_of j).output }
+pub unbegun : (j : Job) (held : Option (List ℕ)) → IsPart Appends j [] held held
+unbegun j held = record {
+  last = start_of j;
+  leads = run_none j.program (start_of j);
+  written = subst (λ (bytes : List ℕ). Appends held held bytes) (sym (start_silent j.program j.args)) (appends_none held);
+}
 
 -- further steps lead on from the start
 leads_on : (j : Job) (m l : State) (before after : List Choice) → LeadsTo j before m → LeadsOn j.program m before after l → LeadsTo j after l
-leads_on j m l before after b h = ap (λ (o : List Choice). runs.run j.program (start_of j) o) h.order ∙ run_on j.program (start_of j) m before h.more b ∙ h.leads
-
--- all that is printed fits behind what was written
-pub grown : (j : Job) (m l : State) (before after : List Choice) → LeadsOn j.program m before after l → length m.output ≤ length l.output
-grown j m l before after h = grows_longer m l (run_grows j.program m l h.more h.leads)
+leads_on j m l before after b h = ap (λ (o : List Choice). runs.run j.program (start_of j) o) h.order ∙ run_append j.program (start_of j) m before h.more b ∙ h.leads
 
 -- ---- a turn
 
--- memory ran out in it
-pub lost : (j : Job) (old new : Turns) (held : Option (List ℕ)) → IsRunOf j old → MayGoOn j.program old.run.machine.state old.run.order new.run.order → Breaks j old new held held
-lost j old new held o h =
-    let g = run_grows j.program old.run.machine.state h.last h.leads.more h.leads.leads in
-    record {
-      last = h.last;
-      leads = leads_on j old.run.machine.state h.last old.run.order new.run.order o.leads h.leads;
-      printed = g.printed;
-      output = g.output;
-      gained = no_front held g.printed;
-    }
+-- what the steps of the order printed
+abbrev pub told_output : Run → List ℕ
+told_output r = take r.printed r.machine.state.output
 
-module _ (j : Job) (old new : Turns) (is : IsRunOf j old) (leads : LeadsOn j.program old.run.machine.state old.run.order new.run.order new.run.machine.state) where
+-- all that is printed fits behind what was written
+pub grown : (p : Program) (old : Turns) (r : Run) → old.written ≡ length old.run.machine.state.output → MayGoOn p old.run.machine.state old.run.order r → old.written ≤ length (told_output r)
+grown p old r written h =
+    let longer = grows_longer old.run.machine.state h.last (run_grows p old.run.machine.state h.last h.leads.more h.leads.leads) in
+    omega (arith, written, longer, ap length h.printed)
+
+module _ (j : Job) (old new : Turns) (is : IsRunOf j old) (goes : MayGoOn j.program old.run.machine.state old.run.order new.run) where
   -- what was printed since
   abbrev since : List ℕ
-  since = (run_grows j.program old.run.machine.state new.run.machine.state leads.more leads.leads).printed
+  since = (run_grows j.program old.run.machine.state goes.last goes.leads.more goes.leads.leads).printed
 
-  since_is : new.run.machine.state.output ≡ old.run.machine.state.output ++ since
-  since_is = (run_grows j.program old.run.machine.state new.run.machine.state leads.more leads.leads).output
+  since_is : goes.last.output ≡ old.run.machine.state.output ++ since
+  since_is = (run_grows j.program old.run.machine.state goes.last goes.leads.more goes.leads.leads).output
 
   -- is the part of the output that wasn't written
-  unwritten : drop old.written new.run.machine.state.output ≡ since
-  unwritten = printed_behind old.run.machine.state new.run.machine.state (run_grows j.program old.run.machine.state new.run.machine.state leads.more leads.leads) old.written is.written
+  unwritten : drop old.written (told_output new.run) ≡ since
+  unwritten =
+      ap (drop old.written) goes.printed
+      ∙ printed_behind old.run.machine.state goes.last (run_grows j.program old.run.machine.state goes.last goes.leads.more goes.leads.leads) old.written is.written
 
-  goes_on : LeadsTo j new.run.order new.run.machine.state
-  goes_on = leads_on j old.run.machine.state new.run.machine.state old.run.order new.run.order is.leads leads
+  goes_on : LeadsTo j new.run.order goes.last
+  goes_on = leads_on j old.run.machine.state goes.last old.run.order new.run.order is.leads goes.leads
 
-  -- a write of it failed
-  pub fault : (piece : List ℕ) (before now : Option (List ℕ)) → piece ≡ drop old.written new.run.machine.state.output → GainsFront before now piece → Breaks j old new before now
-  fault piece before now e g = record {
-    last = new.run.machine.state;
+  -- so much of it was written
+  pub breaks : (Gains : Option (List ℕ) → Option (List ℕ) → List ℕ → Type 0) (piece : List ℕ) (before now : Option (List ℕ)) → piece ≡ drop old.written (told_output new.run) → Gains before now piece → Breaks Gains j old new before now
+  breaks Gains piece before now e g = record {
+    last = goes.last;
     leads = goes_on;
     printed = since;
     output = since_is;
-    gained = subst (GainsFront before now) (e ∙ unwritten) g;
+    gained = subst (Gains before now) (e ∙ unwritten) g;
   }
 
-  -- it was written
-  pub wrote : (piece : List ℕ) (before now : Option (List ℕ)) → piece ≡ drop old.written new.run.machine.state.output → Appends before now piece → IsRun j.program new.run → new.run.limit ≡ old.run.limit → new.written ≡ length new.run.machine.state.output → Writes j old new before now
-  wrote piece before now e g run limit written = record {
-    run = record { run = run; limit = limit ∙ is.limit; leads = goes_on; written = written };
-    printed = since;
-    output = since_is;
-    gained = subst (Appends before now) (e ∙ unwritten) g;
-  }
+-- all of it was written
+pub wrote : (j : Job) (old new : Turns) (is : IsRunOf j old) (run : IsRun j.program new.run) → LeadsOn j.program old.run.machine.state old.run.order new.run.order new.run.machine.state
+    → (piece : List ℕ) (before now : Option (List ℕ)) → piece ≡ drop old.written (told_output new.run) → Appends before now piece → new.run.limit ≡ old.run.limit → new.written ≡ length (told_output new.run) → Writes j old new before now
+wrote j old new is run leads piece before now e gained limit written =
+    let g = run_grows j.program old.run.machine.state new.run.machine.state leads.more leads.leads in
+    let all = all_told j.program new.run run in
+    record {
+      run = record {
+        run = run;
+        limit = limit ∙ is.limit;
+        leads = leads_on j old.run.machine.state new.run.machine.state old.run.order new.run.order is.leads leads;
+        written = written ∙ ap length all;
+      };
+      printed = g.printed;
+      output = g.output;
+      gained = subst (Appends before now) (e ∙ ap (drop old.written) all ∙ printed_behind old.run.machine.state new.run.machine.state g old.written is.written) gained;
+    }
 
 -- why it ended
 pub stops : (j : Job) (limit : ℕ) (m : State) (e : End) → limit ≡ j.steps → IsStop j.program limit m e → IsEnd j m (stop_of e)
@@ -121,6 +134,13 @@ pub goes_to : (j : Job) (old new : Turns) (o : Option End) → old.run.limit ≡
 goes_to j old new None l h = h
 goes_to j old new (Some e) l h = stops j old.run.limit new.run.machine.state e l h
 
+-- a turn all of whose output was written
+pub turned_by : {E : Type 0} (j : Job) (old new : Turns) (o : Result (Option End) E) → IsRunOf j old → OnOk o (IsRun j.program new.run) → OnOk o (LeadsOn j.program old.run.machine.state old.run.order new.run.order new.run.machine.state)
+    → IfOk o (λ e. IsTurn j.program old.run.limit old.run.order new.run e) → OnErr o (MayGoOn j.program old.run.machine.state old.run.order new.run) → new.run.limit ≡ old.run.limit
+    → (piece : List ℕ) (before now : Showing) → piece ≡ drop old.written (told_output new.run) → Appends before.held now.held piece → new.written ≡ length (told_output new.run) → Turned j old new before now (stop_at o)
+turned_by j old new (Ok e) is run leads turn goes limit piece before now at g w = (wrote j old new is run leads piece before.held now.held at g limit w, goes_to j old new e is.limit turn)
+turned_by j old new (Err x) is run leads turn goes limit piece before now at g w = breaks j old new is goes Appends piece before.held now.held at g
+
 -- ---- the loop
 
 -- after a turn
@@ -132,11 +152,11 @@ turned j old new before mid now f g h o w l = record {
 }
 
 -- in a turn that a fault cut off
-pub broken : (j : Job) (old new : Turns) (before mid now : Option (List ℕ)) (f g : ℕ) → GoesOn j old before mid f g → Breaks j old new mid now → IsPart j new.run.order before now
-broken j old new before mid now f g o b = record {
+pub broken : (Gains : Option (List ℕ) → Option (List ℕ) → List ℕ → Type 0) (j : Job) (old new : Turns) (before mid now : Option (List ℕ)) (f g : ℕ) → GainsBehind Gains → GoesOn j old before mid f g → Breaks Gains j old new mid now → IsPart Gains j new.run.order before now
+broken Gains j old new before mid now f g behind o b = record {
   last = b.last;
   leads = b.leads;
-  written = front_behind before mid now old.run.machine.state.output b.printed b.last.output b.output o.gained b.gained;
+  written = behind before mid now old.run.machine.state.output b.printed b.last.output b.output o.gained b.gained;
 }
 
 -- at the end of the run
@@ -144,16 +164,12 @@ whole : (j : Job) (turns : Turns) (before now : Option (List ℕ)) (f h : ℕ) (
 whole j turns before now f h s o e = record { last = turns.run.machine.state; leads = o.run.leads; ended = e; written = o.gained }
 
 -- or anywhere before
-pub part : (j : Job) (turns : Turns) (before now : Option (List ℕ)) (f h : ℕ) → GoesOn j turns before now f h → IsPart j turns.run.order before now
-part j turns before now f h o = record {
-  last = turns.run.machine.state;
-  leads = o.run.leads;
-  written = whole_front before now turns.run.machine.state.output o.gained;
-}
+pub part : (j : Job) (turns : Turns) (before now : Option (List ℕ)) (f h : ℕ) → GoesOn j turns before now f h → IsPart Appends j turns.run.order before now
+part j turns before now f h o = record { last = turns.run.machine.state; leads = o.run.leads; written = o.gained }
 
 -- where that was a write
-pub broken_write : (j : Job) (old new : Turns) (before mid now : Option (List ℕ)) (f g h : ℕ) → GoesOn j old before mid f g → (Breaks j old new mid now × Rose g h) → IsPart j new.run.order before now × Rose f h
-broken_write j old new before mid now f g h o b = (broken j old new before mid now f g o b.0, omega (arith, b.1, o.later))
+pub broken_write : (j : Job) (old new : Turns) (before mid now : Option (List ℕ)) (f g h : ℕ) → GoesOn j old before mid f g → (Breaks GainsFront j old new mid now × Rose g h) → IsPart GainsFront j new.run.order before now × Rose f h
+broken_write j old new before mid now f g h o b = (broken GainsFront j old new before mid now f g front_behind o b.0, omega (arith, b.1, o.later))
 
 -- ---- what is answered
 

@@ -17,7 +17,7 @@ use Rattle.one_jvm.specs.declared.outcome.Refusal.TheVariants.{Link, Flow, ReadF
 use Rattle.one_jvm.specs.Words.{Asked, IsCall, IsSomeCall, IsRun, IsCheck, IsReplay, name_at}
 use Rattle.one_jvm.specs.Verdicts.{AreRead, Names, StopsFor, IsProgram, IsChecked, HasReplay, IsVerdict}
 use Rattle.one_jvm.specs.Outcomes.{place_of, told_text, accepted_text, ending_text, report, status_of, end_status}
-use Rattle.one_jvm.specs.Replays.{Replayed, StandsAs, EndsAs, PrintsAll, PrintsFront}
+use Rattle.one_jvm.specs.Replays.{Replayed, StandsAs, EndsAs, PrintsAll, PrintsPart}
 use Rattle.one_jvm.specs.Runs.{Job, job_of, LeadsTo, IsEnd, RanTo}
 
 -- ---- the cause of a refusal, apart from faults of standard error
@@ -99,12 +99,17 @@ PrintedAll words told before now = HasReplay (PrintsAll before.held now.held) to
 
 -- it gained a front of what they print
 abbrev pub PrintedFront : List (List ℕ) → Option Files → Showing → Showing → Type 0
-PrintedFront words told before now = HasReplay (PrintsFront before.held now.held) told words
+PrintedFront words told before now =
+    HasReplay (PrintsPart GainsFront before.held now.held) told words
+
+-- or all of it
+abbrev pub PrintedSome : List (List ℕ) → Option Files → Showing → Showing → Type 0
+PrintedSome words told before now = HasReplay (PrintsPart Appends before.held now.held) told words
 
 -- what standard output gained where no run was begun. Where nothing is refused that is the line of
 -- accepted files, or all that a replay prints. A replay that stops at a choice, or ends early, printed
--- what it could. Where a write failed or memory ran out it is nothing, or a front of either; it is
--- nothing where anything else is refused
+-- what it could. Where a write failed it is nothing, or a front of either; where memory ran out it is
+-- nothing, or all that a replay's first choices print; it is nothing where anything else is refused
 abbrev pub Wrote : List (List ℕ) → Option Files → Showing → Showing → Option Refusal → Type 0
 Wrote words told before now None =
     Accepts told words (λ line. Says line before now None) ⊎ PrintedAll words told before now
@@ -113,7 +118,7 @@ Wrote words told before now (Some WriteFault) =
     ⊎ (Accepts told words (λ line. Says line before now (Some WriteFault))
     ⊎ PrintedFront words told before now)
 Wrote words told before now (Some NoMemory) =
-    (now ≡ before) ⊎ PrintedFront words told before now
+    (now ≡ before) ⊎ PrintedSome words told before now
 Wrote words told before now (Some (NotEnabled number)) = PrintedAll words told before now
 Wrote words told before now (Some EarlyOrder) = PrintedAll words told before now
 Wrote words told before now (Some e) = now ≡ before

@@ -1,7 +1,6 @@
 -- What comes of an order that is taken again.
 use Rattle.std.specs.Prelude.{◌≡◌, ◌≢◌, ℕ, ◌+◌, ◌≤◌, List, [], length, take, slice_get, Option, Some, None}
 use Rattle.std.specs.Io.KnownBytes.{Appends}
-use Rattle.cjvm_io.specs.Sinks.{GainsFront}
 use Rattle.program_image.specs.Program.{Program}
 use Rattle.machine_state.specs.declared.state.Choice.{Choice}
 use Rattle.machine_state.specs.declared.state.End.TheVariants.{AllEnded, Dead, Going}
@@ -83,11 +82,12 @@ pub record PrintsAll (before now : Option (List ℕ)) (r : Replayed) : Type 0 wh
       → step r.program last choice ≡ None
   pub written : Appends before now last.output
 
--- the sink gained a front of what some first choices print
-pub record PrintsFront (before now : Option (List ℕ)) (r : Replayed) : Type 0 where
+-- the sink gained so much of what some first choices print
+pub record PrintsPart (Gains : Option (List ℕ) → Option (List ℕ) → List ℕ → Type 0)
+    (before now : Option (List ℕ)) (r : Replayed) : Type 0 where
   pub order : List Choice
   pub text : IsOrderText r.text order
   pub taken : ℕ
   pub last : State
   pub follows : Follows r.program r.args order taken last
-  pub written : GainsFront before now last.output
+  pub written : Gains before now last.output

@@ -55,16 +55,17 @@ pub record IsWhole (j : Job) (order : List Choice) (stop : Stop)
   pub ended : IsEnd j last stop
   pub written : Appends before now last.output
 
--- the order is a legal one, and the sink gained a front of its output
-pub record IsPart (j : Job) (order : List Choice) (before now : Option (List ℕ))
-    : Type 0 where
+-- the order is a legal one, and the sink gained so much of its output
+pub record IsPart (Gains : Option (List ℕ) → Option (List ℕ) → List ℕ → Type 0) (j : Job)
+    (order : List Choice) (before now : Option (List ℕ)) : Type 0 where
   pub last : State
   pub leads : LeadsTo j order last
-  pub written : GainsFront before now last.output
+  pub written : Gains before now last.output
 
--- what holds of the order and of the sink, by how the run ended
+-- what holds of the order and of the sink, by how the run ended: all output of the order's steps was
+-- written, but where a write failed
 abbrev pub RanTo : Job → List Choice → Showing → Showing → Stop → Type 0
 RanTo j order before now WriteFault =
-    IsPart j order before.held now.held × Rose before.faults now.faults
-RanTo j order before now NoMemory = IsPart j order before.held now.held
+    IsPart GainsFront j order before.held now.held × Rose before.faults now.faults
+RanTo j order before now NoMemory = IsPart Appends j order before.held now.held
 RanTo j order before now stop = IsWhole j order stop before.held now.held

@@ -6,14 +6,14 @@ ghost use Rattle.one_machine.specs.Ready.{CanRun};
 ghost use Rattle.one_jvm.specs.Answers.{ComesFirst};
 ghost use Rattle.one_jvm.specs.Steps.Loading.{replay_of};
 ghost use Rattle.one_jvm.specs.Steps.Parts.{asked_by};
-ghost use Rattle.one_jvm.specs.Steps.ReplaySteps.{tape, IsEndTold, IsEndFor, refusal_by, TapeComesTo, ReplayComesTo};
+ghost use Rattle.one_jvm.specs.Steps.ReplaySteps.{ending_at, tape, IsEndTold, IsEndFor, refusal_by, TapeComesTo, ReplayComesTo};
 
 use crate::ending::ending_text;
 use crate::outcome::{Refusal, Stop};
 use crate::running::Broken;
 use crate::words::Request;
 use cjvm_io::{Sink, write_all};
-use jvm_base::Units;
+use jvm_base::{NoMemory, Units};
 use machine_state::Order;
 use order_replay::{Ending, Replay};
 use order_text::{OrderErr, read_order};
@@ -86,11 +86,22 @@ fn end_of(alloc: Global, image: &Image, replay: &Replay, ending: Ending) -> Repl
     }
 }
 
+/// What came of steps: an end, none, or want of memory.
+fn ending_at(end: Result<Option<Ending>, NoMemory>) -> Result<Option<Ending>, Broken>
+    ensures { result ≡ ending_at end }
+{
+    match end {
+        Ok(end) => Ok(end),
+        Err(_) => Err(Broken::NoMemory),
+    }
+}
+
 impl Takes {
     ghost use Rattle.one_machine.specs.Ready.{IsReady};
     ghost use Rattle.one_jvm.specs.Steps.ReplaySteps.{IsTakesOf, Turned};
 
-    /// Takes steps, and writes what they printed, whatever the program's arguments were.
+    /// Takes steps, and writes what they printed, whatever the program's arguments were. That is
+    /// written too where memory runs out.
     fn turn<O: Sink>(
         &mut self,
         alloc: Global,
@@ -106,14 +117,12 @@ impl Takes {
             (shown O.held O.faults out.old) (shown O.held O.faults out.new) result }
         ensures later { O.faults out.old ≤ O.faults out.new }
     {
-        let Ok(end) = self.replay.burst(alloc, image, order) else {
-            return Err(Broken::NoMemory);
-        };
+        let end = self.replay.burst(alloc, image, order);
         let output = self.replay.output();
         match write_all(out, &output[self.written..]) {
             Ok(()) => {
                 self.written = output.len();
-                Ok(end)
+                ending_at(end)
             }
             Err(_) => Err(Broken::WriteFault),
         }

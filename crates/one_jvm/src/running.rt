@@ -1,13 +1,13 @@
 //! A run of a program on the one machine.
 
-ghost use Rattle.std.specs.Prelude.{◌≡◌, ◌≤◌, ℕ, List, [], length, option_map, IfOk};
+ghost use Rattle.std.specs.Prelude.{◌≡◌, ◌≤◌, ℕ, List, [], length, IfOk};
 ghost use Rattle.std.specs.Result.{IsOk};
 ghost use Rattle.one_machine.specs.Ready.{CanRun};
 ghost use Rattle.cjvm_io.specs.Sinks.{shown};
 ghost use Rattle.one_jvm.specs.Outcomes.{ending_text};
 ghost use Rattle.one_jvm.specs.Runs.{RanTo, job_of};
 ghost use Rattle.one_jvm.specs.Steps.Parts.{asked_by};
-ghost use Rattle.one_jvm.specs.Steps.RunSteps.{stop_of, TellsWhole};
+ghost use Rattle.one_jvm.specs.Steps.RunSteps.{stop_at, stop_of, TellsWhole};
 
 use crate::ending::ending_text;
 use crate::outcome::Stop;
@@ -52,13 +52,14 @@ fn stop_of(end: End) -> Stop
     }
 }
 
-/// The same where there is an end.
-fn stop_at(end: Option<End>) -> Option<Stop>
-    ensures { result ≡ option_map stop_of end }
+/// What came of steps: an end in this crate's words, none, or want of memory.
+fn stop_at(end: Result<Option<End>, NoMemory>) -> Result<Option<Stop>, Broken>
+    ensures { result ≡ stop_at end }
 {
     match end {
-        Some(end) => Some(stop_of(end)),
-        None => None,
+        Ok(Some(end)) => Ok(Some(stop_of(end))),
+        Ok(None) => Ok(None),
+        Err(_) => Err(Broken::NoMemory),
     }
 }
 
@@ -105,7 +106,8 @@ impl Turns {
     ghost use Rattle.one_jvm.specs.Runs.{job};
     ghost use Rattle.one_jvm.specs.Steps.RunSteps.{IsRunOf, Turned};
 
-    /// Takes steps, and writes what they printed, whatever the program's arguments were.
+    /// Takes steps, and writes what they printed, whatever the program's arguments were. That is
+    /// written too where memory runs out.
     fn turn<O: Sink>(
         &mut self,
         alloc: Global,
@@ -120,14 +122,12 @@ impl Turns {
             (shown O.held O.faults out.new) result }
         ensures later { O.faults out.old ≤ O.faults out.new }
     {
-        let Ok(end) = self.run.burst(alloc, image) else {
-            return Err(Broken::NoMemory);
-        };
+        let end = self.run.burst(alloc, image);
         let output = self.run.output();
         match write_all(out, &output[self.written..]) {
             Ok(()) => {
                 self.written = output.len();
-                Ok(stop_at(end))
+                stop_at(end)
             }
             Err(_) => Err(Broken::WriteFault),
         }

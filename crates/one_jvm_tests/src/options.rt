@@ -67,6 +67,26 @@ fn stops_at_the_limit(rt: HostRuntime) -> Result<(), Fail> {
     Ok(())
 }
 
+/// A.class has ten steps, of which the eighth prints.
+#[test]
+fn ends_at_the_limit(rt: HostRuntime) -> Result<(), Fail> {
+    let alloc = rt.alloc();
+    let rows: [(&str, u8, &[u8], &[u8]); 4] = [
+        ("10", 0, b"5\n", b""),
+        ("9", 8, b"5\n", b"cjvm: step limit thread 0\n"),
+        ("8", 8, b"5\n", b"cjvm: step limit thread 0\n"),
+        ("7", 8, b"", b"cjvm: step limit thread 0\n"),
+    ];
+    for (steps, status, out, err) in rows {
+        let file = file_of(alloc, TAIL.as_slice())?;
+        let left = call(alloc, &["run", "--steps", steps, "A.class"], file, NO_FAILS)?;
+        assert_eq!(rt; left.outcome.status, status, "steps {steps}");
+        assert_eq!(rt; left.out.as_slice(), out);
+        assert_eq!(rt; left.err.as_slice(), err);
+    }
+    Ok(())
+}
+
 #[test]
 fn runs_below_the_limit(rt: HostRuntime) -> Result<(), Fail> {
     let alloc = rt.alloc();

@@ -6,7 +6,6 @@ use Rattle.std.specs.Prelude.{slice_get, slice_set}
 use Rattle.jvm_base.specs.Words.{from}
 use Rattle.jvm_base.specs.declared.frame.Level.{Level}
 use Rattle.program_image.specs.Program.{Program}
-use Rattle.machine_state.specs.declared.served.Wish.TheVariants.{Fresh}
 use Rattle.machine_state.specs.declared.state.Choice.{Choice}
 use Rattle.machine_state.specs.declared.state.Mode.{Mode}
 use Rattle.machine_state.specs.declared.state.Mode.TheVariants.{Running}
@@ -14,15 +13,16 @@ use Rattle.machine_state.specs.declared.state.ThreadState.{ThreadState}
 use Rattle.machine_state.specs.Runs.{any_choice, run}
 use Rattle.machine_state.specs.State.{State}
 use Rattle.machine_state.specs.Step.{after, step}
+use Rattle.machine_state.proofs.NameTests.{some_is}
 use Rattle.frame_soundness.specs.AcceptedProgram.{Types, Accepted}
 use Rattle.machine_soundness.specs.Sound.{Sound}
 use Rattle.step_plan.specs.Condition.{CanPlan}
 use Rattle.step_soundness.proofs.StepLaws.{sound-step}
-use Rattle.one_machine.specs.Gliding.{Always, AreGlided, Glides, GlidesOn, after_moves}
+use Rattle.one_machine.specs.Gliding.{Always, AreGlided, Glides, after_moves}
 use Rattle.one_machine.specs.InPlace.{running_next}
 use Rattle.one_machine.specs.Ready.{Machine, IsReady}
 use Rattle.one_machine.proofs.GlideLevels.{is_running}
-use Rattle.one_machine.proofs.InPlace.{went_in_place}
+use Rattle.one_machine.proofs.InPlace.{step_in_place}
 use Rattle.one_machine.proofs.Planning.{can_plan}
 
 -- ---- runs
@@ -36,17 +36,6 @@ sound_run p types a (c ∷ cs) m l sound e = by_step (λ n s h. sound_run p type
     by_step : ((n : State) → Sound p types n → run p n cs ≡ Some l → Sound p types l) → (o : Option State) → step p m c ≡ o → from None (λ next. run p next cs) o ≡ Some l → Sound p types l
     by_step more None is h = absurd cc
     by_step more (Some n) is h = more n (sound-step p types a m n c sound is) h
-
--- what comes first in a run is a run
-run_front : (p : Program) (xs ys : List Choice) (m l : State) → run p m (xs ++ ys) ≡ Some l → (s : State) × (run p m xs ≡ Some s)
-unfolding run
-run_front p [] ys m l e = (m, refl)
-run_front p (c ∷ xs) ys m l e = by_step (λ n h. run_front p xs ys n l h) (step p m c) e
-  where
-    by_step : ((n : State) → run p n (xs ++ ys) ≡ Some l → (s : State) × (run p n xs ≡ Some s)) → (o : Option State) → from None (λ next. run p next (xs ++ ys)) o ≡ Some l
-        → (s : State) × (from None (λ next. run p next xs) o ≡ Some s)
-    by_step more None h = absurd cc
-    by_step more (Some n) h = more n h
 
 -- ---- one thread
 
@@ -67,21 +56,6 @@ get_there (z ∷ xs) zero x y e = refl
 get_there (z ∷ xs) (suc i) x y e = get_there xs i x y e
 
 module _ (p : Program) (types : Types) (a : Accepted p types) (t : ℕ) where
-  -- one move is a step
-  moves_step : (m : State) (th : ThreadState) (ls : List Level) → Sound p types m → slice_get m.threads t ≡ Some th → running_next p th.mode th.levels ≡ Some ls
-      → step p m (any_choice t) ≡ Some (record m { threads = slice_set m.threads t (after th (Running, ls)) })
-  moves_step m th ls sound at e =
-      (went_in_place p m (Fresh t 0 0) None (any_choice t) (slice_set m.threads t (after th (Running, ls)))
-      (λ u k there. can_plan p types a m u k sound there)
-      (record {
-        choice = refl;
-        old = th;
-        new = after th (Running, ls);
-        is_old = at;
-        moved = record { levels = ls; next = e; stepped = refl };
-        others = refl;
-      })).0.steps
-
   -- so many are a run
   pub moves_run : (n : ℕ) (m : State) (th : ThreadState) (ls : List Level) → Sound p types m → slice_get m.threads t ≡ Some th → after_moves (running_next p th.mode) n th.levels ≡ Some ls
       → run p m (replicate n (any_choice t)) ≡ Some (record m { threads = slice_set m.threads t (glided n th ls) })
@@ -104,7 +78,7 @@ module _ (p : Program) (types : Types) (a : Accepted p types) (t : ℕ) where
           let next : ThreadState = after th (Running, x) in
           let l : State = record m { threads = slice_set m.threads t (after th (Running, x)) } in
           let mode : th.mode ≡ Running = is_running p th.mode th.levels x is in
-          let stepped = moves_step m th x sound at is in
+          let stepped = step_in_place p m t th x (can_plan p types a m t th sound at) at is in
           let rest = more l next (sound-step p types a m l (any_choice t) sound stepped) (get_there m.threads t th next at)
           (subst (λ (k : Mode). after_moves (running_next p k) n x ≡ Some ls) mode h) in
           let steps : th.steps + 1 + n ≡ th.steps + suc n = omega arith in
@@ -139,19 +113,26 @@ module _ (p : Program) (types : Types) (a : Accepted p types) (t : ℕ) where
           moves_run n m th new.levels sound at g.moves.lead
           ∙ ap (λ (ts : List ThreadState). Some (record m { threads = ts })) (ap (slice_set m.threads t) (sym g.stepped) ∙ sym same)
 
+-- ---- one step
+
+-- steps of which there is but one
+pub one_glided : (p : Program) (m next : State) (t most limit n : ℕ) → n ≡ 1 → Glides p m t most limit n next → step p m (any_choice t) ≡ Some next
+unfolding run
+one_glided p m next t most limit n one g = by_step (step p m (any_choice t)) (subst (λ (k : ℕ). run p m (replicate k (any_choice t)) ≡ Some next) one g.leads)
+  where
+    by_step : (o : Option State) → from None (λ s. run p s []) o ≡ Some next → o ≡ Some next
+    by_step None e = absurd cc
+    by_step (Some s) e = e
+
+-- or none
+pub none_glided : (p : Program) (m next : State) (t most limit n : ℕ) → n ≡ 0 → Glides p m t most limit n next → next ≡ m
+unfolding run
+none_glided p m next t most limit n none g = sym (some_is (subst (λ (k : ℕ). run p m (replicate k (any_choice t)) ≡ Some next) none g.leads))
+
 -- they are no more than they may be
 pub few_glided : (p : Program) (t most limit n : ℕ) (olds news : List ThreadState) (o : Option ThreadState) → AreGlided p t most limit n olds news o → n ≤ most
 few_glided p t most limit n olds news None (none, same) = omega (arith, none)
 few_glided p t most limit n olds news (Some th) (new, g, same) = omega (arith, g.moves.few, min-le_left most (limit - th.steps))
-
--- an order with some of the steps of a run
-pub glides_on : (p : Program) (m l : State) (t count n : ℕ) (before after : List Choice) → run p m (replicate count (any_choice t)) ≡ Some l → n ≤ count → after ≡ before ++ replicate n (any_choice t)
-    → GlidesOn p m t before after
-glides_on p m l t count n before after leads few order =
-    let split : replicate n (any_choice t) ++ replicate (count - n) (any_choice t) ≡ replicate count (any_choice t) =
-    replicate-append-replicate n (count - n) (any_choice t) ∙ ap (λ (k : ℕ). replicate k (any_choice t)) (omega arith) in
-    let front = run_front p (replicate n (any_choice t)) (replicate (count - n) (any_choice t)) m l (ap (run p m) split ∙ leads) in
-    record { count = n; last = front.0; order = order; leads = front.1 }
 
 -- the machine is ready for what comes next
 pub ready_glided : (p : Program) (m : Machine) (t most limit n : ℕ) (next : State) → (r : IsReady p m) → Glides p m.state t most limit n next → IsReady p (record { state = next; tables = m.tables; blanks = m.blanks })

@@ -1,9 +1,8 @@
 -- Steps of one thread in a row, each of which touches nothing but its own frame.
-use Rattle.std.specs.Prelude.{◌≡◌, ℕ, zero, suc, ◌+◌, ◌-◌, ◌≤◌, ◌<◌, min, List, ◌++◌, replicate, Option, Some, None, slice_get, slice_set}
+use Rattle.std.specs.Prelude.{◌≡◌, ℕ, zero, suc, ◌+◌, ◌-◌, ◌≤◌, ◌<◌, min, List, replicate, Option, Some, None, slice_get, slice_set}
 use Rattle.jvm_base.specs.Words.{from}
 use Rattle.jvm_base.specs.declared.frame.Frame.{Frame}
 use Rattle.program_image.specs.Program.{Program}
-use Rattle.machine_state.specs.declared.state.Choice.{Choice}
 use Rattle.machine_state.specs.declared.state.ThreadState.{ThreadState}
 use Rattle.machine_state.specs.Runs.{any_choice, run}
 use Rattle.machine_state.specs.State.{State}
@@ -57,10 +56,3 @@ pub record Glides (p : Program) (m : State) (t most limit n : ℕ) (next : State
   pub leads : run p m (replicate n (any_choice t)) ≡ Some next
   pub threads : AreGlided p t most limit n m.threads next.threads (slice_get m.threads t)
   pub shared : next ≡ record m { threads = next.threads }
-
--- the order has so many steps of the thread more, which can be taken
-pub record GlidesOn (p : Program) (m : State) (t : ℕ) (before after : List Choice) : Type 0 where
-  pub count : ℕ
-  pub last : State
-  pub order : after ≡ before ++ replicate count (any_choice t)
-  pub leads : run p m (replicate count (any_choice t)) ≡ Some last

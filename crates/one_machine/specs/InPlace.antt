@@ -1,6 +1,5 @@
 -- A step that touches nothing but its own frame.
-use Rattle.std.specs.Prelude.{◌≡◌, ◌&&◌, ◌==◌, if◌then◌else◌, Bool, List, [], ◌∷◌, option_map, Option, Some, None, slice_get, slice_set}
-use Rattle.jvm_base.specs.Names.{name_eq, no_name}
+use Rattle.std.specs.Prelude.{List, [], ◌∷◌, option_map, Option, Some, None}
 use Rattle.jvm_base.specs.Words.{from}
 use Rattle.jvm_base.specs.declared.frame.Frame.{Frame}
 use Rattle.jvm_base.specs.declared.frame.Level.{Level}
@@ -15,26 +14,9 @@ use Rattle.frame_ops.specs.declared.answer.Pure.{Pure}
 use Rattle.frame_ops.specs.declared.answer.Pure.TheVariants as pure
 use Rattle.frame_ops.specs.Moves.{frame_after, pure_answer}
 use Rattle.frame_ops.specs.Stepping.{move_at}
-use Rattle.machine_state.specs.declared.served.Wish.{Wish}
-use Rattle.machine_state.specs.declared.served.Wish.TheVariants as wish
-use Rattle.machine_state.specs.declared.state.Choice.{Choice}
 use Rattle.machine_state.specs.declared.state.Mode.{Mode}
 use Rattle.machine_state.specs.declared.state.Mode.TheVariants.{Running}
-use Rattle.machine_state.specs.declared.state.ThreadState.{ThreadState}
 use Rattle.machine_state.specs.Instructions.{given_to}
-use Rattle.machine_state.specs.Runs.{any_choice}
-use Rattle.machine_state.specs.Step.{after}
-
--- ---- the choice
-
--- the choice picks nobody and names nothing
-abbrev pub is_quiet : Choice → Bool
-is_quiet c = (c.pick == 0) && name_eq c.name no_name
-
--- the choice that is wished for a step that picks nobody and makes nothing, where it may be wished
-abbrev pub quiet_choice : Wish → Option Choice
-quiet_choice (wish.Exactly c) = if is_quiet c then Some c else None
-quiet_choice (wish.Fresh t node index) = Some (any_choice t)
 
 -- ---- the frame
 
@@ -76,19 +58,3 @@ levels_next p (l ∷ ls) = option_map (λ k. k ∷ ls) (level_next p l)
 abbrev pub running_next : Program → Mode → List Level → Option (List Level)
 running_next p Running ls = levels_next p ls
 running_next p _ ls = None
-
--- the thread after a step that touches its frame alone
-pub record IsMoved (p : Program) (old new : ThreadState) : Type 0 where
-  pub levels : List Level
-  pub next : running_next p old.mode old.levels ≡ Some levels
-  pub stepped : new ≡ after old (Running, levels)
-
--- one of the threads has taken such a step, as the choice says, and the others are as before
-pub record IsInPlace (p : Program) (w : Wish) (olds : List ThreadState) (c : Choice)
-    (news : List ThreadState) : Type 0 where
-  pub choice : quiet_choice w ≡ Some c
-  pub old : ThreadState
-  pub new : ThreadState
-  pub is_old : slice_get olds c.thread ≡ Some old
-  pub moved : IsMoved p old new
-  pub others : news ≡ slice_set olds c.thread new

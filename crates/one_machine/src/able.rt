@@ -19,8 +19,9 @@ pub(crate) const NO_NAME: Name = Name {
     index: 0,
 };
 
-/// The choice of a thread that picks nobody and makes nothing.
-pub(crate) fn any_choice(thread: u32) -> Choice
+/// The choice of a thread that picks nobody and makes nothing: that of each step of
+/// [`glide`](crate::Machine::glide).
+pub fn any_choice(thread: u32) -> Choice
     ensures { result ≡ any_choice thread }
 {
     Choice {

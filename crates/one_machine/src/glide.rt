@@ -1,18 +1,16 @@
 //! Steps of one thread in a row that touch nothing but its own frame, done in one loop.
 
-ghost use Rattle.std.specs.Prelude.{◌≡◌, ◌≤◌, ◌∷◌, ◌++◌, ℕ, length, map, replicate, reverse, slice_get, Some, OnOk, OnErr};
+ghost use Rattle.std.specs.Prelude.{◌≡◌, ◌∷◌, map, reverse, slice_get, Some};
 ghost use Rattle.machine_state.specs.declared.state.ThreadState.{ThreadState};
-ghost use Rattle.machine_state.specs.Runs.{any_choice};
 ghost use Rattle.program_reads.specs.Whole.{IsWhole};
 ghost use Rattle.shared_state.specs.Parts.{thread_state};
 ghost use Rattle.step_plan.specs.Condition.{CanPlan, CanPlanIn, CanPlanOn};
 ghost use Rattle.one_machine.specs.Gliding.{Always, AreGlided, AreMoves, IsGlided, frame_move};
 ghost use Rattle.one_machine.specs.InPlace.{level_next, levels_next, running_next};
 
-use crate::able::any_choice;
 use crate::in_place::move_frame;
-use jvm_base::{Frame, Level, NoMemory};
-use machine_state::{Mode, Order};
+use jvm_base::{Frame, Level};
+use machine_state::Mode;
 use program_image::Image;
 use shared_state::Thread;
 
@@ -92,16 +90,4 @@ pub(crate) fn glide(
         return 0;
     }
     glide_thread(image, &mut threads[at], most, limit)
-}
-
-/// Adds so many choices of a thread to an order, which pick nobody and name nothing.
-pub(crate) fn add_choices(order: &mut Order, thread: u32, count: u64) -> Result<(), NoMemory>
-    ensures ok { OnOk result (order.new ≡ order.old ++ replicate count (any_choice thread)) }
-    ensures err { OnErr result ((n : ℕ) × (n ≤ count)
-        × (order.new ≡ order.old ++ replicate n (any_choice thread))) }
-{
-    for _ in 0..count {
-        order.push(any_choice(thread))?;
-    }
-    Ok(())
 }

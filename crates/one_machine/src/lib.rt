@@ -8,5 +8,6 @@ mod machine;
 mod perform;
 mod taking;
 
+pub use able::any_choice;
 pub use machine::{Machine, StepErr};
 pub use taking::{Took, Went};

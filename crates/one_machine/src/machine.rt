@@ -1,6 +1,6 @@
 //! The one machine and its steps.
 
-ghost use Rattle.std.specs.Prelude.{◌≡◌, ◌≤◌, ◌++◌, None, length, map, option_map, replicate, slice_get, Some, IfOk, IfErr, OnOk, OnErr};
+ghost use Rattle.std.specs.Prelude.{◌≡◌, ◌≤◌, true, false, length, map, option_map, slice_get, Some, IfOk, IfErr, OnOk, OnErr};
 ghost use Rattle.std.specs.List.{list_all};
 ghost use Rattle.machine_state.specs.Reasons.{reason};
 ghost use Rattle.machine_state.specs.declared.served.Wish.TheVariants.{Fresh};
@@ -12,16 +12,16 @@ ghost use Rattle.program_reads.specs.Kept.{IsKept};
 ghost use Rattle.shared_state.specs.First.{IsOpening};
 ghost use Rattle.shared_state.specs.Parts.{thread_state};
 ghost use Rattle.step_serve.specs.Blank.{AreBlanks};
-ghost use Rattle.one_machine.specs.Gliding.{Glides, GlidesOn};
+ghost use Rattle.one_machine.specs.Gliding.{Glides};
 ghost use Rattle.one_machine.specs.Going.{IsWent, IsReason};
 ghost use Rattle.one_machine.specs.Ready.{CanRun, IsAble, IsNext, IsReady, machine_at};
 ghost use Rattle.step_attempt.specs.Going.{state_at};
 
-use crate::able::{any_step, next_able};
-use crate::glide::{add_choices, glide};
+use crate::able::{NO_NAME, any_step, next_able};
+use crate::glide::glide;
 use crate::taking::{Went, take};
 use jvm_base::{NoMemory, Uncaught, Units};
-use machine_state::{Choice, End, Mode, Order, Reason, Wish};
+use machine_state::{Choice, End, Mode, Reason, Wish};
 use program_image::Image;
 use program_reads::{Tables, boot};
 use shared_state::{Opening, Shared, Thread};
@@ -78,6 +78,13 @@ fn opening(
         stream: blanks.zeros(alloc, image, boot::PRINT_STREAM)?,
         thread: blanks.zeros(alloc, image, boot::THREAD)?,
     })
+}
+
+/// Whether a choice picks nobody and names nothing.
+fn is_quiet(choice: Choice) -> bool
+    ensures { result ≡ true → any_choice choice.thread ≡ choice }
+{
+    choice.pick == 0 && choice.name == NO_NAME
 }
 
 /// Whether all threads have ended.
@@ -139,6 +146,35 @@ impl Machine {
         )
     }
 
+    /// Takes steps of a thread in a row that touch its frame alone: up to so many, and until the
+    /// thread has taken so many in all. It stops before the first step that does more, and answers
+    /// how many it took. The choice of each picks nobody and names nothing.
+    pub fn glide(&mut self, image: &Image, thread: u32, most: u64, limit: u64) -> u64
+        requires { IsReady image.now self.old }
+        ensures glides { Glides image.now self.old.state thread most limit result self.new.state }
+        ensures few { result ≤ most }
+        ensures ready { IsReady image.now self.new }
+        ensures tables { self.new.tables ≡ self.old.tables }
+        ensures blanks { self.new.blanks ≡ self.old.blanks }
+    {
+        glide(image, &mut self.threads, thread, most, limit)
+    }
+
+    /// Takes the step of a choice, if it touches its thread's frame alone. Else the machine is as
+    /// before.
+    fn step_in_place(&mut self, image: &Image, choice: Choice) -> bool
+        requires { IsReady image.now self.old }
+        ensures stepped { result ≡ true
+            → step image.now self.old.state choice ≡ Some self.new.state }
+        ensures kept { result ≡ false → self.new ≡ self.old }
+        ensures ready { IsReady image.now self.new }
+    {
+        if !is_quiet(choice) {
+            return false;
+        }
+        self.glide(image, choice.thread, 1, u64::MAX) == 1
+    }
+
     /// Takes the step of a choice, or says the first reason why it is none.
     pub fn step(&mut self, alloc: Global, image: &Image, choice: Choice) -> Result<(), StepErr>
         requires { IsReady image.now self.old }
@@ -147,6 +183,9 @@ impl Machine {
         ensures err { OnErr result (self.new ≡ self.old) }
         ensures ready { IsReady image.now self.new }
     {
+        if self.step_in_place(image, choice) {
+            return Ok(());
+        }
         match self.take(alloc, image, Wish::Exactly(choice), None) {
             Ok(Went::Steps(_)) => Ok(()),
             Ok(Went::Refused(reason)) => Err(StepErr::NotEnabled(reason)),
@@ -178,35 +217,6 @@ impl Machine {
             index,
         };
         self.take(alloc, image, wish, Some(most))
-    }
-
-    /// Takes steps of a thread in a row that touch its frame alone, and adds their choices to the
-    /// order: up to so many, and until the thread has taken so many in all. It stops before the
-    /// first step that does more, and answers how many it took. Where memory runs out the order is
-    /// that of steps that were taken, of which the machine may have taken more.
-    pub fn glide(
-        &mut self,
-        image: &Image,
-        thread: u32,
-        most: u64,
-        limit: u64,
-        order: &mut Order,
-    ) -> Result<u64, NoMemory>
-        requires { IsReady image.now self.old }
-        ensures glides { IfOk result
-            (λ n. Glides image.now self.old.state thread most limit n self.new.state) }
-        ensures few { IfOk result (λ n. n ≤ most) }
-        ensures order { IfOk result
-            (λ n. order.new ≡ order.old ++ replicate n (any_choice thread)) }
-        ensures err { OnErr result
-            (GlidesOn image.now self.old.state thread order.old order.new) }
-        ensures ready { IsReady image.now self.new }
-        ensures tables { self.new.tables ≡ self.old.tables }
-        ensures blanks { self.new.blanks ≡ self.old.blanks }
-    {
-        let taken = glide(image, &mut self.threads, thread, most, limit);
-        add_choices(order, thread, taken)?;
-        Ok(taken)
     }
 
     /// The machine as its steps look at it. Which choice is wished is of no account.

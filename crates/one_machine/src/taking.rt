@@ -9,7 +9,6 @@ ghost use Rattle.one_machine.specs.Found.{IsFound};
 ghost use Rattle.one_machine.specs.Going.{IsWent, is_full, is_started, judged, starts_one};
 ghost use Rattle.one_machine.specs.Ready.{IsReady, machine_at};
 
-use crate::in_place::step_in_place;
 use crate::perform::{made, perform};
 use jvm_base::NoMemory;
 use machine_state::{Choice, Effect, Effects, Mode, Reason, Wish};
@@ -119,9 +118,8 @@ fn find(alloc: Global, site: &Site<'_>, most: Option<u32>) -> Result<Result<Goin
     }
 }
 
-/// Takes the step that is wished once it is planned, or says why not. There may be so many threads
-/// at most.
-fn take_planned(
+/// Takes the step that is wished, or says why not. There may be so many threads at most.
+pub(crate) fn take(
     alloc: Global,
     image: &Image,
     tables: &Tables,
@@ -162,34 +160,4 @@ fn take_planned(
     let at = thread_in(wish) as usize;
     perform(alloc, image, shared, threads, at, going)?;
     Ok(Went::Steps(took))
-}
-
-/// Takes the step that is wished, or says why not. There may be so many threads at most. One
-/// that touches its frame alone needs no plan.
-pub(crate) fn take(
-    alloc: Global,
-    image: &Image,
-    tables: &Tables,
-    blanks: &Blanks,
-    shared: &mut Shared,
-    threads: &mut Vec<Thread>,
-    wish: Wish,
-    most: Option<u32>,
-) -> Result<Went, NoMemory>
-    requires ready { IsReady image.now
-        (record {
-          state = state_of shared.old threads.old.items;
-          tables = tables.now;
-          blanks = blanks.now;
-        }) }
-    ensures went { IfOk result (λ went. IsWent image.now
-        (state_of shared.old threads.old.items) wish most went
-        (state_of shared.new threads.new.items)) }
-    ensures err { OnErr result (state_of shared.new threads.new.items
-        ≡ state_of shared.old threads.old.items) }
-{
-    match step_in_place(image, threads, wish) {
-        Some(choice) => Ok(Went::Steps(Took { choice, made: 0 })),
-        None => take_planned(alloc, image, tables, blanks, shared, threads, wish, most),
-    }
 }

@@ -16,18 +16,22 @@ struct Row<'a> {
     status: u8,
 }
 
-/// What a call left.
+/// What a call left, and how many steps its order has.
 #[derive(Drop)]
 struct Left {
     status: u8,
+    steps: u64,
     out: Vec<u8>,
     err: Vec<u8>,
 }
 
-/// Runs the program of these files.
-fn run(alloc: Global, files: &[(&str, &[u8])]) -> Result<Left, Fail> {
+/// Runs the program of these files, with options before them.
+fn run(alloc: Global, options: &[&str], files: &[(&str, &[u8])]) -> Result<Left, Fail> {
     let mut words = Vec::new(alloc);
     words.push(String::from_str(alloc, "run")?)?;
+    for option in options {
+        words.push(String::from_str(alloc, option)?)?;
+    }
     let mut held = Vec::new(alloc);
     for (name, bytes) in files {
         words.push(String::from_str(alloc, name)?)?;
@@ -42,6 +46,7 @@ fn run(alloc: Global, files: &[(&str, &[u8])]) -> Result<Left, Fail> {
     let outcome = cjvm(alloc, words.as_slice(), &mut shelf, &mut out, &mut err);
     Ok(Left {
         status: outcome.status,
+        steps: outcome.order.len(),
         out: Vec::from_slice(alloc, out.bytes())?,
         err: Vec::from_slice(alloc, err.bytes())?,
     })
@@ -50,7 +55,7 @@ fn run(alloc: Global, files: &[(&str, &[u8])]) -> Result<Left, Fail> {
 #[test]
 fn runs_programs(rt: HostRuntime) -> Result<(), Fail> {
     let alloc = rt.alloc();
-    let rows: [Row<'_>; 19] = [
+    let rows: [Row<'_>; 24] = [
         Row {
             files: &[("Edges.class", EDGES.as_slice())],
             out: b"-2147483648\n0\n-56\n",
@@ -171,12 +176,59 @@ fn runs_programs(rt: HostRuntime) -> Result<(), Fail> {
             err: b"cjvm: step limit thread 0\n",
             status: 8,
         },
+        Row {
+            files: &[("Missing.class", MISSING.as_slice())],
+            out: b"0\n",
+            err: b"uncaught 0 java/lang/ArrayIndexOutOfBoundsException\n",
+            status: 1,
+        },
+        Row {
+            files: &[("Remains.class", REMAINS.as_slice())],
+            out: b"2\n1\n0\nleft\n",
+            err: b"uncaught 0 java/lang/ArithmeticException\n",
+            status: 1,
+        },
+        Row {
+            files: &[("Descends.class", DESCENDS.as_slice())],
+            out: b"1\n",
+            err: b"uncaught 0 java/lang/StackOverflowError\n",
+            status: 1,
+        },
+        Row {
+            files: &[("Wraps.class", WRAPS.as_slice())],
+            out: b"900\n",
+            err: b"uncaught 0 Wraps\n",
+            status: 1,
+        },
+        Row {
+            files: &[("Lacks.class", LACKS.as_slice())],
+            out: b"1\n",
+            err: b"cjvm: want of memory\n",
+            status: 20,
+        },
     ];
     for row in rows {
-        let left = run(alloc, row.files)?;
+        let left = run(alloc, &[], row.files)?;
         assert_eq!(rt; left.status, row.status);
         assert_eq!(rt; left.out.as_slice(), row.out);
         assert_eq!(rt; left.err.as_slice(), row.err);
+    }
+    Ok(())
+}
+
+/// A thread that may take no more steps ends the run in its own turn, though others could go on.
+#[test]
+fn stops_in_its_turn(rt: HostRuntime) -> Result<(), Fail> {
+    let alloc = rt.alloc();
+    let files: [(&str, &[u8]); 1] = [("Starts63.class", STARTS63.as_slice())];
+    for (limit, steps) in [("40", 40), ("60", 60)] {
+        let left = run(alloc, &["--steps", limit], &files)?;
+        assert_eq!(rt; left.status, 8);
+        assert_eq!(rt; left.steps, steps);
+        assert_eq!(rt;
+            left.err.as_slice(),
+            b"cjvm: step limit thread 0\n".as_slice()
+        );
     }
     Ok(())
 }

@@ -1,5 +1,5 @@
 -- Runs one behind the other.
-use Rattle.std.proofs.Common.{◌≡◌, List, [], ◌∷◌, ◌++◌, Option, Some, None, refl, sym, ap, ◌∙◌}
+use Rattle.std.proofs.Common.{◌≡◌, List, [], ◌∷◌, ◌++◌, take, Option, Some, None, refl, sym, ap, ◌∙◌}
 use Rattle.std.proofs.lemmas.List.{append_assoc, append-nil}
 use Rattle.jvm_base.specs.Words.{from}
 use Rattle.program_image.specs.Program.{Program}
@@ -8,10 +8,10 @@ use Rattle.machine_state.specs.Runs.{run}
 use Rattle.machine_state.specs.State.{State}
 use Rattle.machine_state.specs.Step.{step}
 use Rattle.machine_state.proofs.NameTests.{some_is}
-use Rattle.scheduler.specs.Running.{LeadsOn, GoesOn}
+use Rattle.scheduler.specs.Running.{Run, LeadsOn, GoesOn}
 
 -- a run goes on where another ends
-run_append : (p : Program) (m l : State) (cs ds : List Choice) → run p m cs ≡ Some l
+pub run_append : (p : Program) (m l : State) (cs ds : List Choice) → run p m cs ≡ Some l
     → run p m (cs ++ ds) ≡ run p l ds
 unfolding run
 run_append p m l [] ds e = ap (λ (x : State). run p x ds) (some_is e)
@@ -47,13 +47,31 @@ leads_further {p = p} {m = m} {l = l} {before = before} x y = record {
   leads = run_append p m l x.more y.more x.leads ∙ y.leads;
 }
 
+-- what comes first in a run is a run
+pub run_front : (p : Program) (m l : State) (cs ds : List Choice) → run p m (cs ++ ds) ≡ Some l
+    → (s : State) × (run p m cs ≡ Some s)
+unfolding run
+run_front p m l [] ds e = (m, refl)
+run_front p m l (c ∷ cs) ds e = by_step (step p m c) (λ n h. run_front p n l cs ds h) e
+  where
+    by_step : (o : Option State)
+        → ((n : State) → run p n (cs ++ ds) ≡ Some l → (s : State) × (run p n cs ≡ Some s))
+        → from None (λ next. run p next (cs ++ ds)) o ≡ Some l
+        → (s : State) × (from None (λ next. run p next cs) o ≡ Some s)
+    by_step None more h = absurd cc
+    by_step (Some n) more h = more n h
+
 -- the order stays: it's legal without a further step
-pub goes_nowhere : (p : Program) (m : State) (before after : List Choice) → after ≡ before
-    → GoesOn p m before after
-goes_nowhere p m before after o =
-    record { last = m; leads = leads_nowhere p m m before after refl o }
+pub goes_nowhere : (p : Program) (m : State) (before : List Choice) (r : Run) → r.order ≡ before
+    → take r.printed r.machine.state.output ≡ m.output → GoesOn p m before r
+goes_nowhere p m before r o printed = record {
+  last = m;
+  leads = leads_nowhere p m m before r.order refl o;
+  printed = printed;
+}
 
 -- steps are taken, and others are legal
-pub goes_further : {p : Program} {m l : State} {before between after : List Choice}
-    → LeadsOn p m before between l → GoesOn p l between after → GoesOn p m before after
-goes_further x y = record { last = y.last; leads = leads_further x y.leads }
+pub goes_further : {p : Program} {m l : State} {before between : List Choice} {r : Run}
+    → LeadsOn p m before between l → GoesOn p l between r → GoesOn p m before r
+goes_further x y =
+    record { last = y.last; leads = leads_further x y.leads; printed = y.printed }

@@ -50,12 +50,13 @@ if_err P (Err y) x e = tt
 
 -- before the first step no thread has taken one
 pub start_run : (p : Program) (args : List (List ℕ)) (a : Run) → a.machine.state ≡ start p args
-    → IsReady p a.machine → IsRun p a
+    → a.printed ≡ 0 → IsReady p a.machine → IsRun p a
 unfolding start
-start_run p args a e ready = record {
+start_run p args a e none ready = record {
   ready = ready;
   within = subst (λ (m : State). AreWithin a.limit m) (sym e) (λ t th h. by_place t th h);
   few = subst (λ (m : State). length m.threads ≤ max_threads) (sym e) (omega arith);
+  printed = none ∙ sym (ap (λ (m : State). length m.output) e);
 }
   where
     by_place : (t : ℕ) (th : ThreadState)
@@ -71,8 +72,8 @@ pub step_run : (p : Program) (a b : Run) (m l : State) (t index : ℕ) (took : T
     → a.machine.state ≡ m → b.machine.state ≡ l → b.limit ≡ a.limit
     → IsRun p a → at_limit a.limit (slice_get a.machine.state.threads t) ≡ false
     → going.IsStep p m (Fresh t 0 index) took l → going.StayFew (Some max_threads) m l
-    → IsReady p b.machine → IsRun p b
-step_run p a b m l t index took from to same run unspent s stay ready = record {
+    → b.printed ≡ length b.machine.state.output → IsReady p b.machine → IsRun p b
+step_run p a b m l t index took from to same run unspent s stay printed ready = record {
   ready = ready;
   within = subst (λ (n : State). AreWithin b.limit n) (sym to)
       (subst (λ (n : ℕ). AreWithin n l) (sym same)
@@ -82,6 +83,7 @@ step_run p a b m l t index took from to same run unspent s stay ready = record {
       (subst (λ (n : State). AreWithin a.limit n) from run.within)));
   few = subst (λ (n : State). length n.threads ≤ max_threads) (sym to)
       (stay (subst (λ (n : State). length n.threads ≤ max_threads) from run.few));
+  printed = printed;
 }
 
 -- it leads on
@@ -102,9 +104,9 @@ step_progress p a b m l t index took from to o s =
 
 -- steps of the thread in turn that touch its frame alone
 pub glided_run : (p : Program) (a b : Run) (m l : State) (t most n : ℕ) → a.machine.state ≡ m
-    → b.machine.state ≡ l → b.limit ≡ a.limit → IsRun p a → Glides p m t most a.limit n l
-    → IsReady p b.machine → IsRun p b
-glided_run p a b m l t most n from to same run g ready = record {
+    → b.machine.state ≡ l → b.limit ≡ a.limit → b.printed ≡ a.printed → IsRun p a
+    → Glides p m t most a.limit n l → IsReady p b.machine → IsRun p b
+glided_run p a b m l t most n from to same printed run g ready = record {
   ready = ready;
   within = subst (λ (s : State). AreWithin b.limit s) (sym (to ∙ g.shared))
       (subst (λ (k : ℕ). AreWithin k (record m { threads = l.threads })) (sym same)
@@ -116,18 +118,21 @@ glided_run p a b m l t most n from to same run g ready = record {
       ∙ (glided_few p t most a.limit n m.threads l.threads (slice_get m.threads t) g.threads
       ∙ ap (λ (s : State). length s.threads) (sym from)) in
       omega (arith, run.few);
+  printed = printed ∙ run.printed ∙ ap (λ (s : State). length s.output) from
+      ∙ sym (ap (λ (s : State). length s.output) (to ∙ g.shared));
 }
 
 -- ---- no step
 
 -- the run stands as before
 pub same_run : (p : Program) (a b : Run) (m : State) → a.machine.state ≡ m → b.machine.state ≡ m
-    → b.limit ≡ a.limit → IsRun p a → IsReady p b.machine → IsRun p b
-same_run p a b m from to same run ready = record {
+    → b.limit ≡ a.limit → b.printed ≡ a.printed → IsRun p a → IsReady p b.machine → IsRun p b
+same_run p a b m from to same printed run ready = record {
   ready = ready;
   within = subst (λ (n : ℕ). AreWithin n b.machine.state) (sym same)
       (subst (λ (n : State). AreWithin a.limit n) (from ∙ sym to) run.within);
   few = subst (λ (n : State). length n.threads ≤ max_threads) (from ∙ sym to) run.few;
+  printed = printed ∙ run.printed ∙ ap (λ (n : State). length n.output) (from ∙ sym to);
 }
 
 -- the thread is passed over
@@ -182,8 +187,8 @@ lead_further p m l n before between after (Ok s) x t = leads_further x t
 lead_further p m l n before between after (Err s) x t = tt
 
 -- or are legal
-pub go_further : {E : Type 0} (p : Program) (m l : State) (before between after : List Choice)
+pub go_further : {E : Type 0} (p : Program) (m l : State) (before between : List Choice) (r : Run)
     (o : Result E NoMemory) → LeadsOn p m before between l
-    → OnErr o (GoesOn p l between after) → OnErr o (GoesOn p m before after)
-go_further p m l before between after (Ok s) x t = tt
-go_further p m l before between after (Err s) x t = goes_further x t
+    → OnErr o (GoesOn p l between r) → OnErr o (GoesOn p m before r)
+go_further p m l before between r (Ok s) x t = tt
+go_further p m l before between r (Err s) x t = goes_further x t

@@ -1,5 +1,5 @@
 -- Runs, and how they end.
-use Rattle.std.specs.Prelude.{◌≡◌, ◌≢◌, ◌≤◌, ◌<◌, ℕ, Bool, true, false, ◌&&◌, not, nat_le, List, [], ◌++◌, length, Option, Some, None, slice_get}
+use Rattle.std.specs.Prelude.{◌≡◌, ◌≢◌, ◌≤◌, ◌<◌, ℕ, Bool, true, false, ◌&&◌, not, nat_le, List, [], ◌++◌, length, take, Option, Some, None, slice_get}
 use Rattle.std.specs.List.{list_any}
 use Rattle.program_image.specs.Program.{Program}
 use Rattle.machine_state.specs.declared.state.Choice.{Choice}
@@ -13,10 +13,12 @@ use Rattle.one_machine.specs.Ready.{Machine, IsReady}
 use Rattle.scheduler.specs.declared.run.Stop.{Stop}
 use Rattle.scheduler.specs.declared.run.Stop.TheVariants as stop
 
--- a run so far: its machine, the order of its steps, and how many steps each thread may take
+-- a run so far: its machine, the order of its steps, how many bytes those printed, and how many
+-- steps each thread may take
 pub record Run : Type 0 where
   pub machine : Machine
   pub order : List Choice
+  pub printed : ℕ
   pub limit : ℕ
 
 -- no thread has more steps than it may take
@@ -32,6 +34,7 @@ pub record IsRun (p : Program) (r : Run) : Type 0 where
   pub ready : IsReady p r.machine
   pub within : AreWithin r.limit r.machine.state
   pub few : length r.machine.state.threads ≤ max_threads
+  pub printed : r.printed ≡ length r.machine.state.output
 
 -- further steps lead from one state to another
 pub record LeadsOn (p : Program) (from : State) (before after : List Choice) (to : State) : Type 0
@@ -40,10 +43,11 @@ pub record LeadsOn (p : Program) (from : State) (before after : List Choice) (to
     pub order : after ≡ before ++ more
     pub leads : run p from more ≡ Some to
 
--- further steps are legal
-pub record GoesOn (p : Program) (from : State) (before after : List Choice) : Type 0 where
+-- further steps are legal. The machine may have taken more, but what they printed is told apart
+pub record GoesOn (p : Program) (from : State) (before : List Choice) (r : Run) : Type 0 where
   pub last : State
-  pub leads : LeadsOn p from before after last
+  pub leads : LeadsOn p from before r.order last
+  pub printed : take r.printed r.machine.state.output ≡ last.output
 
 -- a thread that hasn't ended and has taken as many steps as it may
 abbrev pub at_limit : ℕ → Option ThreadState → Bool

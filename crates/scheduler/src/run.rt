@@ -1,8 +1,8 @@
 //! A run on the one machine.
 
-ghost use Rattle.std.specs.Prelude.{◌≡◌, ℕ, [], ◌∷◌, ◌++◌, length, true, false, slice_get, Some, IfOk, OnOk, OnErr, MatchOption};
+ghost use Rattle.std.specs.Prelude.{◌≡◌, ◌≤◌, ℕ, [], ◌∷◌, ◌++◌, length, true, false, replicate, slice_get, take, Some, IfOk, OnOk, OnErr, MatchOption};
 ghost use Rattle.machine_state.specs.declared.state.ThreadState.{ThreadState as ThreadIs};
-ghost use Rattle.machine_state.specs.Runs.{some_can};
+ghost use Rattle.machine_state.specs.Runs.{any_choice, some_can};
 ghost use Rattle.machine_state.specs.Start.{start};
 ghost use Rattle.one_machine.specs.Ready.{CanRun, IsReady};
 ghost use Rattle.scheduler.specs.Running.{IsRun, LeadsOn, GoesOn, IsStop, IsTurn, IsAtLimit, at_limit};
@@ -10,7 +10,7 @@ ghost use Rattle.scheduler.specs.Progress.{IsProgress};
 
 use jvm_base::{NoMemory, Uncaught, Units};
 use machine_state::{Choice, Order, Reason};
-use one_machine::{Machine, Took, Went};
+use one_machine::{Machine, Took, Went, any_choice};
 use program_image::Image;
 use std::alloc::Global;
 use std::marker::Model;
@@ -46,11 +46,14 @@ enum Progress {
 }
 
 /// A run so far. Threads take turns by their numbers, 64 steps each, and one that can't take a step
-/// is passed over. A notify wakes the first waiter. New objects are named by a counter.
+/// is passed over. A notify wakes the first waiter. New objects are named by a counter. `printed`
+/// is how many bytes the steps of the order wrote: where memory runs out for the order, the machine
+/// may have written more.
 #[derive(Drop)]
 pub struct Run {
     machine: Machine,
     order: Order,
+    printed: usize,
     limit: u64,
     thread: u32,
     left: u32,
@@ -62,7 +65,24 @@ impl Model for Run {
 
     ghost Value = { Kept };
 
-    ghost view = { λ a. record { machine = a.machine; order = a.order; limit = a.limit } };
+    ghost view = { λ a. record {
+      machine = a.machine;
+      order = a.order;
+      printed = a.printed;
+      limit = a.limit;
+    } };
+}
+
+/// Adds so many choices of a thread to an order, each of a step that touches its frame alone.
+fn add_choices(order: &mut Order, thread: u32, count: u64) -> Result<(), NoMemory>
+    ensures ok { OnOk result (order.new ≡ order.old ++ replicate count (any_choice thread)) }
+    ensures err { OnErr result ((n : ℕ) × (n ≤ count)
+        × (order.new ≡ order.old ++ replicate n (any_choice thread))) }
+{
+    for _ in 0..count {
+        order.push(any_choice(thread))?;
+    }
+    Ok(())
 }
 
 impl Run {
@@ -78,6 +98,7 @@ impl Run {
         Ok(Run {
             machine: Machine::new(alloc, image, args)?,
             order: Order::new(alloc),
+            printed: 0,
             limit,
             thread: 0,
             left: TURN,
@@ -134,14 +155,18 @@ impl Run {
         }
     }
 
-    /// Keeps a step in the order, and counts the names that it used.
+    /// Keeps a step in the order, and counts the names that it used and what it wrote.
     fn keep(&mut self, took: Took) -> Result<(), NoMemory>
         ensures ok { OnOk result (self.new.order ≡ self.old.order ++ took.choice ∷ []) }
+        ensures printed { OnOk result
+            (self.new.printed ≡ length self.old.machine.state.output) }
         ensures err { OnErr result (self.new.order ≡ self.old.order) }
+        ensures unprinted { OnErr result (self.new.printed ≡ self.old.printed) }
         ensures machine { self.new.machine ≡ self.old.machine }
         ensures limit { self.new.limit ≡ self.old.limit }
     {
         self.order.push(took.choice)?;
+        self.printed = self.machine.output().len();
         self.next = self.next.saturating_add(took.made);
         self.left = self.left.saturating_sub(1);
         Ok(())
@@ -157,7 +182,7 @@ impl Run {
         ensures run { OnOk result (IsRun image.now self.new) }
         ensures limit { self.new.limit ≡ self.old.limit }
         ensures err { OnErr result
-            (GoesOn image.now self.old.machine.state self.old.order self.new.order) }
+            (GoesOn image.now self.old.machine.state self.old.order self.new) }
     {
         let index = u32::try_from(self.next).unwrap_or(u32::MAX);
         match self
@@ -185,19 +210,23 @@ impl Run {
             self.new.order self.new.machine.state) }
         ensures limit { self.new.limit ≡ self.old.limit }
         ensures err { OnErr result
-            (GoesOn image.now self.old.machine.state self.old.order self.new.order) }
+            (GoesOn image.now self.old.machine.state self.old.order self.new) }
     {
         let most = u64::from(self.left);
-        let order = &mut self.order;
-        let taken = self
-            .machine
-            .glide(image, self.thread, most, self.limit, order)?;
+        let taken = self.machine.glide(image, self.thread, most, self.limit);
         self.left -= taken as u32;
+        add_choices(&mut self.order, self.thread, taken)?;
         Ok(())
     }
 
-    /// The turn of the next thread that can take a step: it takes its first one.
-    fn change_turn(&mut self, alloc: Global, image: &Image) -> Result<Option<Stop>, NoMemory>
+    /// The turn of the next thread that can take a step, from a number on: it takes its first one.
+    /// One that has taken as many as it may ends the run.
+    fn change_turn(
+        &mut self,
+        alloc: Global,
+        image: &Image,
+        from: u32,
+    ) -> Result<Option<Stop>, NoMemory>
         requires { IsRun image.now self.old }
         ensures run { OnOk result (IsRun image.now self.new) }
         ensures later { OnOk result (LeadsOn image.now self.old.machine.state self.old.order
@@ -206,25 +235,25 @@ impl Run {
             (λ o. IsTurn image.now self.old.limit self.old.order self.new o) }
         ensures limit { self.new.limit ≡ self.old.limit }
         ensures err { OnErr result
-            (GoesOn image.now self.old.machine.state self.old.order self.new.order) }
+            (GoesOn image.now self.old.machine.state self.old.order self.new) }
     {
-        let from = self.thread.saturating_add(1);
-        let Some(thread) = self.machine.next_able(alloc, image, from)? else {
+        let Some(next) = self.machine.next_able(alloc, image, from)? else {
             return Ok(Some(self.standstill(image)?));
         };
-        if self.is_spent(thread as usize) {
-            return Ok(Some(Stop::StepLimit { thread }));
+        if self.is_spent(next as usize) {
+            return Ok(Some(Stop::StepLimit { thread: next }));
         }
-        self.thread = thread;
+        self.thread = next;
         self.left = TURN;
-        match self.advance(alloc, image, thread)? {
+        match self.advance(alloc, image, next)? {
             Progress::Stepped => Ok(None),
             Progress::Stops(stop) => Ok(Some(stop)),
             Progress::Passed => unreachable!(),
         }
     }
 
-    /// Takes one step: of the thread in turn, or of the next one that can.
+    /// Takes one step: of the thread in turn, or of the next one that can. A thread in turn that has
+    /// taken as many as it may is asked first whether it can take one more, since that ends the run.
     fn take_one(&mut self, alloc: Global, image: &Image) -> Result<Option<Stop>, NoMemory>
         requires { IsRun image.now self.old }
         ensures run { OnOk result (IsRun image.now self.new) }
@@ -234,17 +263,20 @@ impl Run {
             (λ o. IsTurn image.now self.old.limit self.old.order self.new o) }
         ensures limit { self.new.limit ≡ self.old.limit }
         ensures err { OnErr result
-            (GoesOn image.now self.old.machine.state self.old.order self.new.order) }
+            (GoesOn image.now self.old.machine.state self.old.order self.new) }
     {
         let thread = self.thread;
-        if self.left > 0 && !self.is_spent(thread as usize) {
-            match self.advance(alloc, image, thread)? {
-                Progress::Stepped => return Ok(None),
-                Progress::Stops(stop) => return Ok(Some(stop)),
-                Progress::Passed => {}
-            }
+        if self.left == 0 {
+            return self.change_turn(alloc, image, thread.saturating_add(1));
         }
-        self.change_turn(alloc, image)
+        if self.is_spent(thread as usize) {
+            return self.change_turn(alloc, image, thread);
+        }
+        match self.advance(alloc, image, thread)? {
+            Progress::Stepped => Ok(None),
+            Progress::Stops(stop) => Ok(Some(stop)),
+            Progress::Passed => self.change_turn(alloc, image, thread.saturating_add(1)),
+        }
     }
 
     /// Takes steps: those of the thread in turn that touch its frame alone, and then one more.
@@ -257,7 +289,7 @@ impl Run {
             (λ o. IsTurn image.now self.old.limit self.old.order self.new o) }
         ensures limit { self.new.limit ≡ self.old.limit }
         ensures err { OnErr result
-            (GoesOn image.now self.old.machine.state self.old.order self.new.order) }
+            (GoesOn image.now self.old.machine.state self.old.order self.new) }
     {
         self.glide(image)?;
         self.take_one(alloc, image)
@@ -265,7 +297,7 @@ impl Run {
 
     /// Takes steps: up to 4,096 of any kind, and before each of them as many as its thread's turn has
     /// that touch their frame alone. `Some` where the run is at its end. Where memory runs out the
-    /// order is that of steps that were taken, and the run can't go on.
+    /// order is that of steps that were taken, the output is theirs, and the run can't go on.
     pub fn burst(&mut self, alloc: Global, image: &Image) -> Result<Option<Stop>, NoMemory>
         requires { IsRun image.now self.old }
         ensures run { OnOk result (IsRun image.now self.new) }
@@ -275,7 +307,7 @@ impl Run {
             (λ o. IsTurn image.now self.old.limit self.old.order self.new o) }
         ensures limit { self.new.limit ≡ self.old.limit }
         ensures err { OnErr result
-            (GoesOn image.now self.old.machine.state self.old.order self.new.order) }
+            (GoesOn image.now self.old.machine.state self.old.order self.new) }
     {
         for _ in 0..BURST {
             if let Some(stop) = self.step(alloc, image)? {
@@ -299,11 +331,12 @@ impl Run {
         self.order
     }
 
-    /// The bytes that were written so far.
+    /// The bytes that the steps of the order wrote.
     pub fn output(&self) -> &[u8]
-        ensures { result.now ≡ self.now.machine.state.output }
+        ensures { result.now ≡ take self.now.printed self.now.machine.state.output }
     {
-        self.machine.output()
+        let output = self.machine.output();
+        &output[..self.printed.min(output.len())]
     }
 
     /// The exceptions that nothing caught so far, in order.

@@ -12,8 +12,8 @@ use Rattle.machine_runs.specs.Linked.{linked, main_method, out, println_int, pri
 --     int x = -2147483648, y = -1;
 --     System.out.println(x / y); System.out.println(x % y);
 --     System.out.println(-7 >> 1); System.out.println(-7 >>> 28);
---     long z = 1L  40;
---     System.out.println(z); System.out.println((int) (z  9) * (int) (z >> 9));
+--     long z = 1L << 40;
+--     System.out.println(z); int w = (int) (z >> 9); System.out.println(w * w);
 --     System.out.println((byte) 200); System.out.println((char) 65601); System.out.println((short) 40000);
 --     int k = 7;
 --     switch (k) { case 5: k = 1; break; case 6: k = 2; break; case 7: k = 3; break; default: k = 4; }

@@ -51,14 +51,15 @@ pub record Writes (t : Tape) (old new : Takes) (before now : Option (List ℕ)) 
   pub output : new.replay.machine.state.output ≡ old.replay.machine.state.output ++ printed
   pub gained : Appends before now printed
 
--- choices were taken, and a front of what they printed was written
-pub record Breaks (t : Tape) (old : Takes) (before now : Option (List ℕ)) : Type 0 where
+-- choices were taken, and so much of what they printed was written
+pub record Breaks (Gains : Option (List ℕ) → Option (List ℕ) → List ℕ → Type 0) (t : Tape)
+    (old : Takes) (before now : Option (List ℕ)) : Type 0 where
   pub taken : ℕ
   pub last : State
   pub leads : Leads t taken last
   pub printed : List ℕ
   pub output : last.output ≡ old.replay.machine.state.output ++ printed
-  pub gained : GainsFront before now printed
+  pub gained : Gains before now printed
 
 -- what a turn of the loop leaves
 abbrev pub Turned : Tape → Takes → Takes → Showing → Showing → Result (Option Ending) Broken
@@ -66,8 +67,13 @@ abbrev pub Turned : Tape → Takes → Takes → Showing → Showing → Result 
 Turned t old new before now (Ok o) =
     Writes t old new before.held now.held × IsTaken t.program t.order old.replay new.replay o
 Turned t old new before now (Err broken.WriteFault) =
-    Breaks t old before.held now.held × Rose before.faults now.faults
-Turned t old new before now (Err broken.NoMemory) = Breaks t old before.held now.held
+    Breaks GainsFront t old before.held now.held × Rose before.faults now.faults
+Turned t old new before now (Err broken.NoMemory) = Breaks Appends t old before.held now.held
+
+-- what came of steps: an end, none, or want of memory
+abbrev pub ending_at : {E : Type 0} → Result (Option Ending) E → Result (Option Ending) Broken
+ending_at (Ok o) = Ok o
+ending_at (Err e) = Err broken.NoMemory
 
 -- ---- what comes of a tape
 
@@ -90,12 +96,13 @@ pub record IsStuckTape (number : ℕ) (t : Tape) (before now : Option (List ℕ)
   pub refused : step t.program last choice ≡ None
   pub written : Appends before now last.output
 
--- a front of the output was written
-pub record IsPartTape (t : Tape) (before now : Option (List ℕ)) : Type 0 where
+-- so much of the output was written
+pub record IsPartTape (Gains : Option (List ℕ) → Option (List ℕ) → List ℕ → Type 0) (t : Tape)
+    (before now : Option (List ℕ)) : Type 0 where
   pub taken : ℕ
   pub last : State
   pub leads : Leads t taken last
-  pub written : GainsFront before now last.output
+  pub written : Gains before now last.output
 
 -- how its end is told
 pub record TellsTape (s : Stop) (text : List ℕ) (p : Program) (last : State) : Type 0 where
@@ -115,8 +122,8 @@ TapeComesTo t before now end (Some (NotEnabled k)) text =
     IsStuckTape k t before.held now.held
 TapeComesTo t before now end (Some EarlyOrder) text = IsWholeTape IsGoing t before.held now.held
 TapeComesTo t before now end (Some WriteFault) text =
-    IsPartTape t before.held now.held × Rose before.faults now.faults
-TapeComesTo t before now end (Some NoMemory) text = IsPartTape t before.held now.held
+    IsPartTape GainsFront t before.held now.held × Rose before.faults now.faults
+TapeComesTo t before now end (Some NoMemory) text = IsPartTape Appends t before.held now.held
 TapeComesTo t before now end (Some e) text = ⊥
 
 -- what comes of it where the text of what is replayed is an order's

@@ -1,5 +1,5 @@
 -- A run that is going on.
-use Rattle.std.specs.Prelude.{◌≡◌, ℕ, ◌<◌, ◌++◌, List, [], length, Vec, IfOk, Option, Some, None, Result, Ok, Err}
+use Rattle.std.specs.Prelude.{◌≡◌, ℕ, ◌<◌, ◌++◌, List, [], length, Vec, IfOk, option_map, Option, Some, None, Result, Ok, Err}
 use Rattle.std.specs.Io.KnownBytes.{Appends}
 use Rattle.cjvm_io.specs.Faults.{Rose}
 use Rattle.cjvm_io.specs.Sinks.{Showing, GainsFront}
@@ -37,13 +37,14 @@ abbrev pub GoesTo : Job → Turns → Turns → Option Stop → Type 0
 GoesTo j old new None = length old.run.order < length new.run.order
 GoesTo j old new (Some stop) = IsEnd j new.run.machine.state stop
 
--- steps were taken, and a front of what they printed was written
-pub record Breaks (j : Job) (old new : Turns) (before now : Option (List ℕ)) : Type 0 where
+-- steps were taken, and so much of what they printed was written
+pub record Breaks (Gains : Option (List ℕ) → Option (List ℕ) → List ℕ → Type 0) (j : Job)
+    (old new : Turns) (before now : Option (List ℕ)) : Type 0 where
   pub last : State
   pub leads : LeadsTo j new.run.order last
   pub printed : List ℕ
   pub output : last.output ≡ old.run.machine.state.output ++ printed
-  pub gained : GainsFront before now printed
+  pub gained : Gains before now printed
 
 -- what a turn of the loop leaves
 abbrev pub Turned : Job → Turns → Turns → Showing → Showing → Result (Option Stop) Broken
@@ -51,8 +52,8 @@ abbrev pub Turned : Job → Turns → Turns → Showing → Showing → Result (
 Turned j old new before now (Ok o) =
     Writes j old new before.held now.held × GoesTo j old new o
 Turned j old new before now (Err WriteFault) =
-    Breaks j old new before.held now.held × Rose before.faults now.faults
-Turned j old new before now (Err NoMemory) = Breaks j old new before.held now.held
+    Breaks GainsFront j old new before.held now.held × Rose before.faults now.faults
+Turned j old new before now (Err NoMemory) = Breaks Appends j old new before.held now.held
 
 -- the end of a run in this crate's words
 abbrev pub stop_of : End → Stop
@@ -61,6 +62,11 @@ stop_of ends.Uncaught = stop.Uncaught
 stop_of (ends.StepLimit t) = stop.StepLimit t
 stop_of ends.Deadlock = stop.Deadlock
 stop_of (ends.ThreadsFull t) = stop.ThreadsFull t
+
+-- what came of steps: an end in those words, none, or want of memory
+abbrev pub stop_at : {E : Type 0} → Result (Option End) E → Result (Option Stop) Broken
+stop_at (Ok o) = Ok (option_map stop_of o)
+stop_at (Err e) = Err NoMemory
 
 -- what a run that no fault cut off tells, unless memory ran out for it
 abbrev pub TellsWhole : {A E : Type 0} → Job → List Choice → Stop → Result (Vec ℕ A) E → Type 0

@@ -1,9 +1,11 @@
 use Rattle.std.proofs.Common.{ℕ, ◌-◌, ◌<◌, [], length, ap, subst, ◌∙◌, arith}
+use Rattle.std.specs.Io.KnownBytes.{Appends}
 use Rattle.cjvm_io.specs.Sinks.{shown}
 use Rattle.machine_state.specs.Start.{start}
 use Rattle.one_jvm.specs.Runs.{job_of}
 use Rattle.one_jvm.specs.Steps.Parts.{asked_by}
 use Rattle.one_jvm.specs.declared.outcome.Stop.TheVariants.{WriteFault, NoMemory}
+use Rattle.one_jvm.proofs.RunLaws.{all_behind}
 use Rattle.one_jvm.proofs.RunLoop.{begins, unbegun, turned, broken, broken_write, part, cut_ran, ended_ran, ended_tells, ended_quiet}
 use Rattle.one_jvm.proofs.running.run_program.Goals as goal
 
@@ -44,7 +46,7 @@ returns-in-Err-NoMemory-clause-ran g c =
     let before = shown g.O.Sink.held g.O.Sink.faults c.args.out.now in
     let now = shown g.O.Sink.held g.O.Sink.faults c.turn.new.out in
     cut_ran (job_of c.args.image.now (asked_by c.args.request.now)) c.turn.new.self.run.order c.cut_off-in-Err-NoMemory.result.order NoMemory c.cut_off-in-Err-NoMemory.result.stop before now (c.cut_off-in-Err-NoMemory.ensures.order ∙ c.into_order-in-Err-NoMemory.ensures) c.cut_off-in-Err-NoMemory.ensures.stop
-    (broken (job_of c.args.image.now (asked_by c.args.request.now)) c.turns.turns c.turn.new.self _ _ _ _ _ c.turns.invariant (rw c.in-Err-NoMemory.field-0-is at (c.in-Err-NoMemory.ensures.turned (asked_by c.args.request.now).args (asked_by c.args.request.now).steps c.turns.invariant.run)))
+    (broken Appends (job_of c.args.image.now (asked_by c.args.request.now)) c.turns.turns c.turn.new.self _ _ _ _ _ all_behind c.turns.invariant (rw c.in-Err-NoMemory.field-0-is at (c.in-Err-NoMemory.ensures.turned (asked_by c.args.request.now).args (asked_by c.args.request.now).steps c.turns.invariant.run)))
 
 pub returns-clause-ran : goal.returns-clause-ran
 returns-clause-ran g c =

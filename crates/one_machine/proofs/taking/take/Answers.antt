@@ -1,20 +1,23 @@
-use Rattle.std.specs.Prelude.{map}
-use Rattle.shared_state.specs.Parts.{state_of, thread_state}
-use Rattle.one_machine.proofs.Doing.{get_state}
-use Rattle.one_machine.proofs.InPlace.{went_in_place}
-use Rattle.one_machine.proofs.Planning.{can_plan}
+use Rattle.std.proofs.Common.{List, subst}
+use Rattle.std.specs.Prelude.{Result}
+use Rattle.shared_state.specs.Parts.{state_of}
+use Rattle.shared_state.specs.declared.thread.Thread.{Thread}
+use Rattle.step_attempt.specs.declared.going.Going.{Going}
+use Rattle.one_machine.specs.Found.{FoundStep, IsFound}
+use Rattle.one_machine.specs.declared.taking.Went.{Went}
+use Rattle.one_machine.proofs.Founds.{can_go, went_on}
 use Rattle.one_machine.proofs.taking.take.Goals as goal
 
-pub step_in_place-requires-clause-can : goal.step_in_place-requires-clause-can
-step_in_place-requires-clause-can c =
-    let ready = c.requires.ready in
-    let m = state_of c.args.shared.now c.args.threads.now.items in
-    λ t th e. can_plan c.args.image.now ready.types ready.accepted m t (thread_state th) ready.sound (get_state c.args.threads.now.items t th e)
+pub perform-requires-clause-can : goal.perform-requires-clause-can
+perform-requires-clause-can c =
+    let p = c.args.image.now in
+    let here = subst (λ (r : Result Going Went). IsFound p (state_of c.args.shared.now c.deref.result.now) c.args.wish c.args.most r) c.in-Ok.is c.in_ok-went.ensures in
+    let f = subst (λ (ts : List Thread). FoundStep p (state_of c.args.shared.now ts) c.args.wish c.args.most c.in-Ok.going) c.deref.ensures.value here in
+    λ th e. can_go p c.args.shared.now c.args.threads.now.items c.args.wish c.args.most c.in-Ok.going c.requires.ready.types c.requires.ready.accepted c.requires.ready.sound f c.thread_in-at.result c.thread_in-at.ensures th e
 
-pub returns-in-Some-clause-went : goal.returns-in-Some-clause-went
-returns-in-Some-clause-went c =
-    let ready = c.requires.ready in
-    let m = state_of c.args.shared.now c.args.threads.now.items in
-    went_in_place c.args.image.now m c.args.wish c.args.most c.in-Some.choice (map thread_state c.step_in_place.new.threads.items)
-    (λ t th e. can_plan c.args.image.now ready.types ready.accepted m t th ready.sound e)
-    c.in-Some.ensures
+pub returns-clause-went : goal.returns-clause-went
+returns-clause-went c =
+    let p = c.args.image.now in
+    let here = subst (λ (r : Result Going Went). IsFound p (state_of c.args.shared.now c.deref.result.now) c.args.wish c.args.most r) c.in-Ok.is c.in_ok-went.ensures in
+    let f = subst (λ (ts : List Thread). FoundStep p (state_of c.args.shared.now ts) c.args.wish c.args.most c.in-Ok.going) c.deref.ensures.value here in
+    went_on p (state_of c.args.shared.now c.args.threads.now.items) c.args.wish c.args.most c.in-Ok.going f c.made.result (state_of c.perform.new.shared c.perform.new.threads.items) c.made.ensures c.thread_in-at.result c.thread_in-at.ensures c.in_ok-perform.ensures.ok

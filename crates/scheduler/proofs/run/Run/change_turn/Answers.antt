@@ -3,17 +3,20 @@ use Rattle.std.proofs.Common.{refl, subst}
 use Rattle.scheduler.specs.Running.{Run, LeadsOn}
 use Rattle.scheduler.specs.Progress.{IsProgress}
 use Rattle.scheduler.specs.declared.run.Progress.{Progress}
-use Rattle.scheduler.proofs.Runs.{leads_nowhere, goes_nowhere}
+use Rattle.scheduler.proofs.Breaks.{unmoved}
+use Rattle.scheduler.proofs.Runs.{leads_nowhere}
 use Rattle.scheduler.proofs.Turns.{on_err, leads_stop}
 use Rattle.scheduler.proofs.run.Run.change_turn.Goals as goal
 
-pub returns-in_err-thread-clause-err : goal.returns-in_err-thread-clause-err
-returns-in_err-thread-clause-err c =
-    on_err c.from_residual.result (goes_nowhere c.args.image.now _ _ _ refl)
+pub returns-in_err-next-clause-err : goal.returns-in_err-next-clause-err
+returns-in_err-next-clause-err c =
+    on_err c.from_residual.result
+    (unmoved c.args.image.now c.args.self.now c.args.self.now c.requires refl refl refl)
 
 pub returns-in_err-standstill-clause-err : goal.returns-in_err-standstill-clause-err
 returns-in_err-standstill-clause-err c =
-    on_err c.from_residual-in_err-standstill.result (goes_nowhere c.args.image.now _ _ _ refl)
+    on_err c.from_residual-in_err-standstill.result
+    (unmoved c.args.image.now c.args.self.now c.args.self.now c.requires refl refl refl)
 
 pub returns-in_default-clause-later : goal.returns-in_default-clause-later
 returns-in_default-clause-later c = leads_nowhere c.args.image.now _ _ _ _ refl refl
@@ -26,10 +29,11 @@ returns-in-Stops-clause-later c =
     let before : Run = record {
       machine = c.self.inside.machine;
       order = c.self.inside.order;
+      printed = c.self.inside.printed;
       limit = c.self.inside.limit;
     } in
-    let stops = subst (λ (x : Progress). IsProgress c.args.image.now before c.in-Some.thread
+    let stops = subst (λ (x : Progress). IsProgress c.args.image.now before c.in-Some.next
     c.advance.new.self x) c.in-Stops.is c.in_ok-advance.ensures.progress in
     subst (λ (a : Run). LeadsOn c.args.image.now a.machine.state a.order c.advance.new.self.order
     c.advance.new.self.machine.state) c.self.view_is
-    (leads_stop c.args.image.now before c.advance.new.self c.in-Some.thread c.in-Stops.stop stops)
+    (leads_stop c.args.image.now before c.advance.new.self c.in-Some.next c.in-Stops.stop stops)

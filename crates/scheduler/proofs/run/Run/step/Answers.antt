@@ -14,5 +14,5 @@ returns-clause-turn c =
 
 pub returns-clause-err : goal.returns-clause-err
 returns-clause-err c =
-    go_further c.args.image.now _ _ _ _ _ c.take_one.result c.in_ok-glide.ensures.later
+    go_further c.args.image.now _ _ _ _ c.take_one.new.self c.take_one.result c.in_ok-glide.ensures.later
     c.take_one.ensures.err

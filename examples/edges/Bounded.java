@@ -1,0 +1,3 @@
+/** It has what stands above it. */
+class Bounded extends Constants implements Bounds {
+}

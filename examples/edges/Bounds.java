@@ -1,0 +1,4 @@
+/** An interface above which the constants stand. */
+interface Bounds {
+    long LEAST = "".length();
+}

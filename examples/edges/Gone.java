@@ -1,0 +1,6 @@
+/** Its method is abstract later. */
+class Gone {
+    int size() {
+        return 1;
+    }
+}

@@ -1,0 +1,6 @@
+/** Its method is gone later. */
+class Lost {
+    public int size() {
+        return 2;
+    }
+}

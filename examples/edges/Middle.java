@@ -1,0 +1,3 @@
+/** It has members of its own later. */
+class Middle extends Top {
+}

@@ -1,0 +1,4 @@
+/** The method is abstract now. */
+abstract class Gone {
+    abstract int size();
+}

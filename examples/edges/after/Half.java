@@ -1,0 +1,3 @@
+/** It leaves the method to others now. */
+abstract class Half implements Versions.Sized {
+}

@@ -1,0 +1,3 @@
+/** The method is gone. */
+class Lost {
+}

@@ -1,0 +1,6 @@
+/** The method isn't public any more. */
+class Narrowed {
+    int size() {
+        return 3;
+    }
+}

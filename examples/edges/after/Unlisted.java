@@ -1,0 +1,6 @@
+/** It isn't of the interface any more. */
+class Unlisted {
+    public int size() {
+        return 5;
+    }
+}
