@@ -6,13 +6,16 @@ a byte, net of the time of one small class, as the least of several runs.
 Usage: bench/verifying.py (the program is built by ./cjvm).
 """
 import os
+import random
+import shutil
 import struct
 import tempfile
 
 from linked import Pool, class_file, method
-from program import CJVM, least_time, need_programs
+from program import CJVM, TOP, least_time, need_programs
 
 LIMIT = 65535
+EDGES = os.path.join(TOP, "crates", "cjvm_edges_run", "data")
 
 
 def in_file(make, count):
@@ -83,6 +86,60 @@ def handlers(length, count):
     return make
 
 
+def bare(max_locals):
+    """One instruction, whatever room there is for locals."""
+
+    def make(pool):
+        return b"\xb1", 0, max_locals, ()
+
+    return make
+
+
+def spread_handlers(count, order):
+    """So many handlers, each over an instruction of its own, in an order of the table; the code ends behind."""
+
+    def make(pool):
+        table = [(at, at + 1, count, 0) for at in range(count)]
+        order(table)
+        return b"\x00" * (count - 1) + b"\xb1" + b"\x57\xb1", 1, 1, table
+
+    return make
+
+
+def nested_handlers(count):
+    """So many handlers, each over all that the next one covers and an instruction more at both ends."""
+
+    def make(pool):
+        table = [(at, 2 * count - at, 2 * count + 1, 0) for at in range(count)]
+        return b"\x00" * (2 * count) + b"\xb1" + b"\x57\xb1", 1, 1, table
+
+    return make
+
+
+def deep_joins(depth, count):
+    """So many operands, above which jumps and what goes on meet so often."""
+
+    def make(pool):
+        step = b"\x1a" + branch(0x99, 3)
+        return b"\x03\x3b" + b"\x03" * depth + step * count + b"\xb1", depth + 1, 1, ()
+
+    return make
+
+
+def deep_arrays(count):
+    """Loops, to whose head arrays of ints of 255 dimensions down to one come back, where they meet one after the other."""
+    pool = Pool()
+    code = b""
+    for local in range(count):
+        code += b"\x01" + struct.pack(">BB", 58, local)
+        head = len(code)
+        for dims in range(255, 0, -1):
+            code += b"\x03" + branch(0x99, 12) + b"\x01" + struct.pack(">BH", 192, pool.named(7, b"[" * dims + b"I"))
+            code += struct.pack(">BB", 58, local)
+            code += branch(0xA7, head - len(code))
+    return [class_file(pool, b"A", [method(pool, b"m", b"()V", code + b"\xb1", 1, count)])]
+
+
 def wide_stores(length, stores):
     """So many locals far apart that are written, and joins behind them that each have all of these."""
 
@@ -131,6 +188,15 @@ def chain_files(depth):
     return files
 
 
+def in_order(table):
+    """Leaves a table as it is."""
+
+
+def shuffled(table):
+    """Puts a table into an order that is the same in each run."""
+    random.Random(len(table)).shuffle(table)
+
+
 KINDS = (
     ("ordinary methods", [lambda n=n: [in_file(loop_code, n)] for n in (70, 700, 7000)]),
     ("one method of sums", [lambda n=n: [in_file(straight(n), 1)] for n in (655, 6553, LIMIT)]),
@@ -144,6 +210,13 @@ KINDS = (
     ("jumps back, 255 locals", [lambda n=n: [in_file(back_jumps(n, 255), 1)] for n in (655, 6553, LIMIT)]),
     ("1,000 handlers", [lambda n=n: [in_file(handlers(n, 1000), 1)] for n in (655, 6553, LIMIT)]),
     ("5,000 handlers", [lambda n=n: [in_file(handlers(n, 5000), 1)] for n in (655, 6553)]),
+    ("28,000 methods of one byte, 0 locals", [lambda n=n: [in_file(bare(0), n)] for n in (2800, 28000)]),
+    ("the same, 65,535 locals", [lambda n=n: [in_file(bare(LIMIT), n)] for n in (2800, 28000)]),
+    ("handlers, each over one instruction", [lambda n=n: [in_file(spread_handlers(n, in_order), 1)] for n in (655, 6553, 65533)]),
+    ("the same, in any order", [lambda n=n: [in_file(spread_handlers(n, shuffled), 1)] for n in (655, 6553, 65533)]),
+    ("handlers, one in the other", [lambda n=n: [in_file(nested_handlers(n), 1)] for n in (100, 1000, 5000)]),
+    ("joins above a stack of 30,000", [lambda n=n: [in_file(deep_joins(30000, n), 1)] for n in (80, 800, 8000)]),
+    ("joins of arrays of up to 255 dimensions", [lambda n=n: deep_arrays(n) for n in (1, 10)]),
     ("a stack that grows to the end", [lambda n=n: [in_file(deep_stack(n), 1)] for n in (655, 6553, LIMIT)]),
     ("15 methods of joins, 2 locals", [lambda: [in_file(joins(LIMIT, 2), 15)]]),
     ("15 methods of joins, 255 locals", [lambda: [in_file(joins(LIMIT, 255), 15)]]),
@@ -161,6 +234,18 @@ def written(folder, files):
     return paths
 
 
+def stored_classes():
+    """The class files of javac's that are stored as a run."""
+    return [os.path.join(root, name) for root, _, names in os.walk(EDGES) for name in names if name.endswith(".class")]
+
+
+def print_beside_javap(name, paths, options=()):
+    """The time of a check of these files, and that of `javap -c` of them."""
+    took = least_time([CJVM, "check", *options, *paths], (0,), None)
+    listed = least_time(["javap", "-c", "-p", *paths], (0,), None)
+    print(f"{name:40} check {took * 1000:9.2f} ms, javap -c {listed * 1000:9.2f} ms")
+
+
 def main():
     need_programs(CJVM)
     with tempfile.TemporaryDirectory() as folder:
@@ -173,6 +258,9 @@ def main():
                 took = least_time([CJVM, "check", *written(folder, files)], (0,), None)
                 net = max(took - small, 0) / size * 1e9
                 print(f"{name:40} {size:8} bytes: {took * 1000:9.2f} ms, {net:9.1f} ns a byte")
+        if shutil.which("javap"):
+            print_beside_javap("1,000 ordinary methods", written(folder, [in_file(loop_code, 1000)]))
+            print_beside_javap("53 classes of javac's", sorted(stored_classes()), ("--main", "Edges"))
 
 
 if __name__ == "__main__":

@@ -6,6 +6,7 @@ pub mod RangeLaws
 pub mod GivenLaws
 pub mod Worklist
 pub mod PotentialLaws
+pub mod HandlerLaws
 pub mod Leads
 pub mod CatchLaws
 pub mod Ways

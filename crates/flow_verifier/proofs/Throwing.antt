@@ -1,9 +1,8 @@
 -- What is thrown to the handlers of a place, one after another.
-use Rattle.std.proofs.Common.{◌≡◌, ◌∙◌, sym, ap, subst, refl, ℕ, zero, suc, ◌+◌, ◌<◌, ◌≤◌, Bool, true, false, List, [], ◌∷◌, ◌++◌, length, slice_get, slice_set, Option, Some, None, inl, inr, arith}
-use Rattle.std.specs.Prelude.{if◌then◌else◌, drop, filter, get_or}
+use Rattle.std.proofs.Common.{◌≡◌, ◌∙◌, sym, ap, subst, refl, ℕ, zero, suc, ◌+◌, ◌<◌, ◌≤◌, Bool, true, List, [], ◌∷◌, ◌++◌, length, slice_get, slice_set, Option, Some, None, inl, inr, arith}
+use Rattle.std.specs.Prelude.{get_or}
 use Rattle.std.specs.List.{list_any}
 use Rattle.std.proofs.Math.ListN.{length-replicate}
-use Rattle.std.proofs.lemmas.Bool.{cases_Bool}
 use Rattle.std.proofs.lemmas.Bool.Decides.{eqb_tells}
 use Rattle.std.proofs.lemmas.Option.{slice_get-get_or, slice_get_within}
 use Rattle.code_table.specs.declared.code.Placed.{Placed}
@@ -25,14 +24,14 @@ use Rattle.flow_verifier.specs.Typing.{frame_at, FitsPlace, FitsThere}
 use Rattle.flow_verifier.specs.Flowing.{Flows, IsAlike, IsMore}
 use Rattle.flow_verifier.specs.Ranges.{covers_place, range_at}
 use Rattle.flow_verifier.specs.Leading.{ways_caught}
-use Rattle.flow_verifier.specs.Catching.{without_operands, TakenAt, AreTaken, IsCatching, IsUncaught}
+use Rattle.flow_verifier.specs.Catching.{without_operands, AreCovering, TakenAt, AreTaken, IsCatching, IsUncaught}
 use Rattle.flow_verifier.specs.Going.{IsGoing, IsPartly, IsTakenOff, IsMarked, IsCatcher, IsPut, IsThrowing}
 use Rattle.flow_verifier.specs.Potential.{potential}
 use Rattle.flow_verifier.proofs.GivenLaws.{given-frame}
 use Rattle.flow_verifier.proofs.Worklist.{IsFlow, has-place, get-set-same, get-set-other, set-length, place-up, flow, none-at, off-start, partly-start, partly-off, partly-flow, partly-all}
 use Rattle.flow_verifier.proofs.PotentialLaws.{flow-falls}
 use Rattle.flow_verifier.proofs.Leads.{caught_way}
-use Rattle.flow_verifier.proofs.CatchLaws.{bare_frame, thrown_anywhere, covers_at, thrown_mono, own_below, catching_up, more_frame, more_bare, more_above, more_below}
+use Rattle.flow_verifier.proofs.CatchLaws.{bare_frame, thrown_anywhere, thrown_mono, own_below, catching_up, more_frame, more_bare, more_above, more_below}
 use Rattle.flow_verifier.proofs.Ways.{flows-at}
 use Rattle.flow_verifier.proofs.Visits.{put-gives, put-stays, alike-frames}
 
@@ -48,7 +47,7 @@ pub same_handler : (hs : List Handler) (k q : ℕ) (h g : Handler) → q ≡ k �
 same_handler hs k q h g e i j = let t : Some h ≡ Some g = sym i ∙ (ap (slice_get hs) (sym e) ∙ j) in cc
 
 abbrev pub with_thrown : Catch → FlowFrame → Catch
-with_thrown v d = record { at = v.at; address = v.address; caught = v.caught; thrown = d }
+with_thrown v d = record { at = v.at; caught = v.caught; thrown = d; handlers = v.handlers }
 
 -- what ranges have caught, once one has caught this
 abbrev pub with_caught : Catches → ℕ → FlowFrame → Catches
@@ -63,42 +62,6 @@ handler_at hs xs k e l = slice_get-get_or hs k no_handler l ∙ ap (λ z. Some (
 
 pub no_frame : (o : Option FlowFrame) (f : FlowFrame) → o ≡ None → o ≡ Some f → ⊥
 no_frame o f e i = let q : None ≡ Some f = sym e ∙ i in absurd cc
-
--- ---- how many handlers cover a place
-
-pub count_one : (hs : List Handler) (test : Handler → Bool) (k : ℕ) (h : Handler) → slice_get hs k ≡ Some h → length (filter test (drop k hs)) ≡ (if test h then 1 else 0) + length (filter test (drop (k + 1) hs))
-count_one [] test k h e = absurd cc
-count_one (x ∷ hs) test zero h e =
-    let f : x ≡ h = cc in
-    elim (cases_Bool (test x)) [
-      | inl p ↦ let q : test h ≡ true = subst (λ z. test z ≡ true) f p in rw (p, q) (omega arith)
-      | inr p ↦ let q : test h ≡ false = subst (λ z. test z ≡ false) f p in rw (p, q) (omega arith)
-    ]
-count_one (x ∷ hs) test (suc k) h e = let n : suc k + 1 ≡ suc (k + 1) = omega arith in rw n (count_one hs test k h e)
-
--- one handler more is counted
-pub count_more : (hs : List Handler) (address k steps next start : ℕ) → k < length hs → ((h : Handler) → slice_get hs k ≡ Some h → next ≤ steps + (if covers address h then 1 else 0)) → steps + length (filter (covers address) (drop k hs)) ≤ start + length (filter (covers address) hs) → next + length (filter (covers address) (drop (k + 1) hs)) ≤ start + length (filter (covers address) hs)
-count_more hs address k steps next start l f b =
-    let h : Handler = get_or hs k no_handler in
-    let i : slice_get hs k ≡ Some h = handler_at hs hs k refl l in
-    let one : length (filter (covers address) (drop k hs)) ≡ (if covers address h then 1 else 0) + length (filter (covers address) (drop (k + 1) hs)) = count_one hs (covers address) k h i in
-    let a : next ≤ steps + (if covers address h then 1 else 0) = f h i in omega arith
-
-pub counts_one : (address : ℕ) (h : Handler) (steps next : ℕ) → covers address h ≡ true → next ≤ steps + 1 → next ≤ steps + (if covers address h then 1 else 0)
-counts_one address h steps next e l = rw e l
-
-filter_alike : (hs : List Handler) (f g : Handler → Bool) → ((h : Handler) → f h ≡ g h) → length (filter f hs) ≡ length (filter g hs)
-filter_alike [] f g e = refl
-filter_alike (x ∷ hs) f g e =
-    let r : length (filter f hs) ≡ length (filter g hs) = filter_alike hs f g e in
-    elim (cases_Bool (g x)) [
-      | inl p ↦ rw (e x, p) (ap suc r)
-      | inr p ↦ rw (e x, p) r
-    ]
-
-pub ways_by : (p : Program) (m : Method) (at address : ℕ) (o : Placed) → slice_get (ops_of p m.number) at ≡ Some o → o.at ≡ address → length (filter (covers address) m.handlers) ≡ ways_caught p m at
-unfolding ways_caught
-ways_by p m at address o e f = filter_alike m.handlers (covers address) (covers_place (ops_of p m.number) at) (λ h. sym (covers_at (ops_of p m.number) at address o h e f))
 
 module _ (p : Program) (tree : IsTree (superclasses p)) (m : Method) (im : IsMethod p m) where
   -- no range has caught anything
@@ -161,9 +124,9 @@ module _ (p : Program) (tree : IsTree (superclasses p)) (m : Method) (im : IsMet
         own = inr (λ k f e l i j. absurd (n f k e i j));
       }
 
-  pub throw_start : (at : ℕ) (o : Placed) (f : FlowFrame) (v : Catch) (s : Rising) → slice_get (ops_of p m.number) at ≡ Some o → v.at ≡ at → o.at ≡ v.address → frame_at s.frames at ≡ Some f → IsMarked s → IsCatching p m s.frames s.catches → IsGoing p m s.frames (s.todo ++ (at ∷ [])) → IsMore (superclasses p) (list_any (covers v.address) m.handlers) (frame_at s.catches.frames (range_at s.catches.ranges at)) f v.caught → IsCatcher v.caught v.thrown → IsThrowing p m v 0 s
-  throw_start at o f v s i a b e k x g more c =
-      let covered : Bool = list_any (covers v.address) m.handlers in
+  pub throw_start : (at address : ℕ) (o : Placed) (f : FlowFrame) (v : Catch) (s : Rising) → slice_get (ops_of p m.number) at ≡ Some o → v.at ≡ at → o.at ≡ address → AreCovering p m at v.handlers → frame_at s.frames at ≡ Some f → IsMarked s → IsCatching p m s.frames s.catches → IsGoing p m s.frames (s.todo ++ (at ∷ [])) → IsMore (superclasses p) (list_any (covers address) m.handlers) (frame_at s.catches.frames (range_at s.catches.ranges at)) f v.caught → IsCatcher v.caught v.thrown → IsThrowing p m v 0 s
+  throw_start at address o f v s i a b hs e k x g more c =
+      let covered : Bool = list_any (covers address) m.handlers in
       let before : Option FlowFrame = frame_at s.catches.frames (range_at s.catches.ranges at) in
       let own : IsFrame (superclasses p) (room_of m) f = g.under.assignment.frames at f e in
       let old : (c : FlowFrame) → before ≡ Some c → IsFrame (superclasses p) (room_of m) c = λ c q. (x.frames (range_at s.catches.ranges at) c q).0 in
@@ -172,53 +135,44 @@ module _ (p : Program) (tree : IsTree (superclasses p)) (m : Method) (im : IsMet
         caught = record {
           placed = o;
           is_placed = rw a i;
-          address = b;
+          handlers = subst (λ w. AreCovering p m w v.handlers) (sym a) hs;
           frame = more_frame p tree m im covered before f v.caught old own more;
           bare = more_bare p tree m im covered before f v.caught bare more;
           above = more_above p tree m im covered before f v.caught old own more;
-          below = λ gs z. subst (λ w. TakenAt p m w v.caught (length m.handlers) gs) (sym a) (more_below p tree m im at v.address o before f v.caught gs i b (λ c q. (bare c q, x.below gs z at c q)) z (own_below p tree m im at f gs own z (place-up p tree m im f (Some f) (frame_at gs at) (frame-refl (superclasses p) tree (room_of m) f) (subst (λ w. FitsThere (superclasses p) w (frame_at gs at)) e (g.under.below gs z at)))) more);
+          below = λ gs z. subst (λ w. TakenAt p m w v.caught (length m.handlers) gs) (sym a) (more_below p tree m im at address o before f v.caught gs i b (λ c q. (bare c q, x.below gs z at c q)) z (own_below p tree m im at f gs own z (place-up p tree m im f (Some f) (frame_at gs at) (frame-refl (superclasses p) tree (room_of m) f) (subst (λ w. FitsThere (superclasses p) w (frame_at gs at)) e (g.under.below gs z at)))) more);
           catcher = c;
         };
         partly = subst (λ w. IsPartly p m w f 0 s.frames s.todo) (sym a) (partly-start p tree m im at 0 f s.frames s.todo (off-start p tree m im at s.frames s.todo g) e);
-        taken = λ q h l j t. absurd (omega arith);
+        taken = λ q h l j. absurd (omega arith);
         marked = k;
         catching = x;
       }
 
   -- ---- one handler
 
-  -- a handler that doesn't cover the place
-  pub throw_skip : (v : Catch) (k : ℕ) (h : Handler) (s : Rising) → IsThrowing p m v k s → slice_get m.handlers k ≡ Some h → covers v.address h ≡ false → IsThrowing p m v (k + 1) s
-  throw_skip v k h s x i n =
-      let a = x.caught in record {
-        frame = x.frame;
-        caught = a;
-        partly = x.partly;
-        taken = λ q g l j t. elim (eqb_tells q k) [
-          | inl w ↦
-              let r : h ≡ g = same_handler m.handlers k q h g (w.1) i j in
-              let b : true ≡ false = sym t ∙ (covers_at (ops_of p m.number) v.at v.address a.placed g a.is_placed a.address ∙ subst (λ z. covers v.address z ≡ false) r n) in absurd cc
-          | inr w ↦ x.taken q g (less q k l (w.1)) j t
-        ];
-        marked = x.marked;
-        catching = x.catching;
-      }
+  -- a handler that covers the place is one of the method's
+  own_handler : (v : Catch) (k : ℕ) (h : Handler) (s : Rising) → IsThrowing p m v k s → slice_get v.handlers k ≡ Some h → (covers_place (ops_of p m.number) v.at h ≡ true) × ((q : ℕ) × (slice_get m.handlers q ≡ Some h))
+  own_handler v k h s x i = let a = x.caught in let c = a.handlers in c.own k h i
 
   thrown_is : (v : Catch) (k : ℕ) (h : Handler) (d : FlowFrame) (s : Rising) → IsThrowing p m v k s → IsPut v.thrown d h.class → d ≡ given p m v.at v.caught (catching h)
   thrown_is v k h d s x q = let a = x.caught in put-gives p m v.at h.to h.class v.caught v.thrown d a.catcher q
 
-  thrown_frame : (v : Catch) (k : ℕ) (h : Handler) (s : Rising) → IsThrowing p m v k s → slice_get m.handlers k ≡ Some h → IsFrame (superclasses p) (room_of m) (given p m v.at v.caught (catching h))
-  thrown_frame v k h s x i = let a = x.caught in given-frame p tree m im v.at v.caught (catching h) a.frame (im.handlers k h i)
+  thrown_frame : (v : Catch) (k : ℕ) (h : Handler) (s : Rising) → IsThrowing p m v k s → slice_get v.handlers k ≡ Some h → IsFrame (superclasses p) (room_of m) (given p m v.at v.caught (catching h))
+  thrown_frame v k h s x i =
+      let a = x.caught in
+      let (q, there) = (own_handler v k h s x i).1 in
+      given-frame p tree m im v.at v.caught (catching h) a.frame (im.handlers q h there)
 
   -- where it leads there is a place
-  pub throw_target : (v : Catch) (k : ℕ) (h : Handler) (s : Rising) → IsThrowing p m v k s → slice_get m.handlers k ≡ Some h → h.to < length s.frames
+  pub throw_target : (v : Catch) (k : ℕ) (h : Handler) (s : Rising) → IsThrowing p m v k s → slice_get v.handlers k ≡ Some h → h.to < length s.frames
   throw_target v k h s x i =
       let a = x.partly in let b = a.under in let c = b.assignment in
-      let n : h.to < length (ops_of p m.number) = (im.handlers k h i).0 in
+      let (q, there) = (own_handler v k h s x i).1 in
+      let n : h.to < length (ops_of p m.number) = (im.handlers q h there).0 in
       let l : length s.frames ≡ length (ops_of p m.number) = c.long in omega arith
 
   -- with a frame like the one that flows there
-  pub throw_alike : (v : Catch) (k : ℕ) (h : Handler) (d : FlowFrame) (s : Rising) → IsThrowing p m v k s → slice_get m.handlers k ≡ Some h → IsPut v.thrown d h.class → IsAlike d (frame_at s.frames h.to)
+  pub throw_alike : (v : Catch) (k : ℕ) (h : Handler) (d : FlowFrame) (s : Rising) → IsThrowing p m v k s → slice_get v.handlers k ≡ Some h → IsPut v.thrown d h.class → IsAlike d (frame_at s.frames h.to)
   throw_alike v k h d s x i q =
       let a = x.partly in let b = a.under in let c = b.assignment in
       subst (λ z. IsAlike z (frame_at s.frames h.to)) (sym (thrown_is v k h d s x q))
@@ -227,43 +181,52 @@ module _ (p : Program) (tree : IsTree (superclasses p)) (m : Method) (im : IsMet
   throw_flows : (v : Catch) (k : ℕ) (h : Handler) (d : FlowFrame) (s t : Rising) → IsThrowing p m v k s → IsPut v.thrown d h.class → Flows (superclasses p) d h.to s.frames s.todo t.frames t.todo → Flows (superclasses p) (given p m v.at v.caught (catching h)) h.to s.frames s.todo t.frames t.todo
   throw_flows v k h d s t x q w = flows-at (superclasses p) d (given p m v.at v.caught (catching h)) h.to h.to s.frames t.frames s.todo t.todo (thrown_is v k h d s x q) refl w
 
-  -- a handler that covers it
-  pub throw_step : (v : Catch) (k : ℕ) (h : Handler) (d : FlowFrame) (s t : Rising) → IsThrowing p m v k s → slice_get m.handlers k ≡ Some h → covers v.address h ≡ true → IsPut v.thrown d h.class → Flows (superclasses p) d h.to s.frames s.todo t.frames t.todo → IsMarked t → t.catches ≡ s.catches → IsThrowing p m (with_thrown v d) (k + 1) t
-  throw_step v k h d s t x i n q f mk e =
+  -- one handler more
+  pub throw_step : (v : Catch) (k : ℕ) (h : Handler) (d : FlowFrame) (s t : Rising) → IsThrowing p m v k s → slice_get v.handlers k ≡ Some h → IsPut v.thrown d h.class → Flows (superclasses p) d h.to s.frames s.todo t.frames t.todo → IsMarked t → t.catches ≡ s.catches → IsThrowing p m (with_thrown v d) (k + 1) t
+  throw_step v k h d s t x i q f mk e =
       let a = x.caught in
       let b = x.partly in let u = b.under in
       let g : FlowFrame = given p m v.at v.caught (catching h) in
       let w : IsFlow p tree m im g h.to s.frames s.todo t.frames t.todo = flow p tree m im g h.to s.frames s.todo t.frames t.todo (throw_target v k h s x i) u.assignment (thrown_frame v k h s x i) (throw_flows v k h d s t x q f) in
-      let here : covers_place (ops_of p m.number) v.at h ≡ true = covers_at (ops_of p m.number) v.at v.address a.placed h a.is_placed a.address ∙ n in record {
+      let (here, there) = own_handler v k h s x i in
+      let (o, own) = there in record {
         frame = x.frame;
         caught = record {
           placed = a.placed;
           is_placed = a.is_placed;
-          address = a.address;
+          handlers = a.handlers;
           frame = a.frame;
           bare = a.bare;
           above = a.above;
           below = a.below;
           catcher = put-stays h.class v.caught v.thrown d a.catcher q;
         };
-        partly = partly-flow p tree m im v.at 0 h.to x.frame g s.frames t.frames s.todo t.todo b (λ gs z. a.below gs z k h (slice_get_within m.handlers k h i) i here) w;
-        taken = λ r y l j c. elim (eqb_tells r k) [
-          | inl z ↦ subst (λ o. FitsPlace (superclasses p) (given p m v.at v.caught (catching o)) (frame_at t.frames o.to)) (same_handler m.handlers k r h y (z.1) i j) w.there
-          | inr z ↦ place-up p tree m im _ (frame_at s.frames y.to) _ (x.taken r y (less r k l (z.1)) j c) (w.rise y.to)
+        partly = partly-flow p tree m im v.at 0 h.to x.frame g s.frames t.frames s.todo t.todo b (λ gs z. a.below gs z o h (slice_get_within m.handlers o h own) own here) w;
+        taken = λ r y l j. elim (eqb_tells r k) [
+          | inl z ↦ subst (λ o. FitsPlace (superclasses p) (given p m v.at v.caught (catching o)) (frame_at t.frames o.to)) (same_handler v.handlers k r h y (z.1) i j) w.there
+          | inr z ↦ place-up p tree m im _ (frame_at s.frames y.to) _ (x.taken r y (less r k l (z.1)) j) (w.rise y.to)
         ];
         marked = mk;
         catching = subst (λ z. IsCatching p m t.frames z) (sym e) (catching_up p tree m im s.frames t.frames s.catches w.rise x.catching);
       }
 
   -- the potential doesn't rise
-  pub throw_falls : (v : Catch) (k : ℕ) (h : Handler) (d : FlowFrame) (s t : Rising) → IsThrowing p m v k s → slice_get m.handlers k ≡ Some h → IsPut v.thrown d h.class → Flows (superclasses p) d h.to s.frames s.todo t.frames t.todo → (w : ℕ → ℕ) → potential p m w t.frames t.todo ≤ potential p m w s.frames s.todo
+  pub throw_falls : (v : Catch) (k : ℕ) (h : Handler) (d : FlowFrame) (s t : Rising) → IsThrowing p m v k s → slice_get v.handlers k ≡ Some h → IsPut v.thrown d h.class → Flows (superclasses p) d h.to s.frames s.todo t.frames t.todo → (w : ℕ → ℕ) → potential p m w t.frames t.todo ≤ potential p m w s.frames s.todo
   throw_falls v k h d s t x i q f w =
       let b = x.partly in let u = b.under in
       flow-falls p tree m im w (given p m v.at v.caught (catching h)) h.to s.frames s.todo t.frames t.todo (throw_target v k h s x i) u.assignment (thrown_frame v k h s x i) (throw_flows v k h d s t x q f)
 
   -- ---- after the last handler
 
-  pub throw_end : (v : Catch) (s : Rising) → IsThrowing p m v (length m.handlers) s → IsTakenOff p m v.at (ways_caught p m v.at) s.frames s.todo
+  -- each handler that covers the place has taken what was caught
+  all_taken : (v : Catch) (s : Rising) → IsThrowing p m v (length v.handlers) s → TakenAt p m v.at v.caught (length m.handlers) s.frames
+  all_taken v s x q h l i t =
+      let a = x.caught in
+      let c = a.handlers in
+      let (k, there) = c.all q h i t in
+      x.taken k h (slice_get_within v.handlers k h there) there
+
+  pub throw_end : (v : Catch) (s : Rising) → IsThrowing p m v (length v.handlers) s → IsTakenOff p m v.at (ways_caught p m v.at) s.frames s.todo
   throw_end v s x =
       let a = x.caught in
       let b = x.partly in
@@ -272,7 +235,7 @@ module _ (p : Program) (tree : IsTree (superclasses p)) (m : Method) (im : IsMet
       (λ k e l i. let h = caught_way p m v.at k e l i in
       subst (λ z. FitsPlace (superclasses p) (given p m v.at x.frame z) (frame_at s.frames (target z))) (sym h.leads)
       (thrown_mono p tree m im v.at v.at x.frame v.caught h.handler (frame_at s.frames h.handler.to) b.frame a.frame a.above
-      (x.taken h.place h.handler (slice_get_within m.handlers h.place h.handler h.is_there) h.is_there h.passes))))
+      (all_taken v s x h.place h.handler (slice_get_within m.handlers h.place h.handler h.is_there) h.is_there h.passes))))
 
   keep_taken : (s : Catches) (at : ℕ) (c : FlowFrame) (fs gs : List (Option FlowFrame)) → IsCatching p m fs s → at < length (ops_of p m.number) → AreTaken p m s gs → TakenAt p m at c (length m.handlers) gs → AreTaken p m (with_caught s at c) gs
   keep_taken s at c fs gs x n old new i d e k h l j t =
@@ -288,7 +251,7 @@ module _ (p : Program) (tree : IsTree (superclasses p)) (m : Method) (im : IsMet
       ]
 
   -- the range has caught it
-  pub throw_keep : (v : Catch) (s : Rising) → IsThrowing p m v (length m.handlers) s → IsCatching p m s.frames (with_caught s.catches v.at v.caught)
+  pub throw_keep : (v : Catch) (s : Rising) → IsThrowing p m v (length v.handlers) s → IsCatching p m s.frames (with_caught s.catches v.at v.caught)
   throw_keep v s x =
       let a = x.caught in
       let b = x.catching in
@@ -303,6 +266,6 @@ module _ (p : Program) (tree : IsTree (superclasses p)) (m : Method) (im : IsMet
               subst (λ z. IsFrame (superclasses p) (room_of m) z × (without_operands z ≡ z)) w (a.frame, a.bare)
           | inr q ↦ b.frames r c (sym (get-set-other s.catches.frames (range_at s.catches.ranges v.at) r (Some v.caught) (q.1)) ∙ e)
         ];
-        taken = keep_taken s.catches v.at v.caught s.frames s.frames b n b.taken x.taken;
+        taken = keep_taken s.catches v.at v.caught s.frames s.frames b n b.taken (all_taken v s x);
         below = λ gs z. keep_taken s.catches v.at v.caught s.frames gs b n (b.below gs z) (a.below gs z);
       }

@@ -11,11 +11,21 @@ use Rattle.flow_verifier.specs.declared.catches.Catches.{Catches}
 use Rattle.flow_verifier.specs.Methods.{ops_of, room_of}
 use Rattle.flow_verifier.specs.Given.{given, catching}
 use Rattle.flow_verifier.specs.Typing.{frame_at, FitsPlace, IsClosed}
+use Rattle.flow_verifier.specs.Leading.{ways_caught}
 use Rattle.flow_verifier.specs.Ranges.{covers_place, range_at, AreRanges}
 
 -- a frame's locals below no operand; the clash frame for itself
 abbrev pub without_operands : FlowFrame → FlowFrame
 without_operands f = if f.clash then clash_frame else frame_of f.locals [] f.fresh
+
+-- those of a method's handlers that cover the instruction at a place
+pub record AreCovering (p : Program) (m : Method) (at : ℕ) (hs : List Handler) : Type 0 where
+  pub own : (k : ℕ) (h : Handler) → slice_get hs k ≡ Some h →
+      (covers_place (ops_of p m.number) at h ≡ true)
+      × ((q : ℕ) × (slice_get m.handlers q ≡ Some h))
+  pub all : (q : ℕ) (h : Handler) → slice_get m.handlers q ≡ Some h →
+      covers_place (ops_of p m.number) at h ≡ true → (k : ℕ) × (slice_get hs k ≡ Some h)
+  pub count : length hs ≡ ways_caught p m at
 
 -- of the first n handlers each that covers a place takes what an instruction there throws from c
 abbrev pub TakenAt : Program → Method → ℕ → FlowFrame → ℕ → List (Option FlowFrame) → Type 0

@@ -2,7 +2,7 @@
 use Rattle.code_table.specs.declared.code.Placed.{Placed}
 use Rattle.program_image.specs.Program.{Program}
 use Rattle.flow_types.specs.Tree.{superclasses}
-use Rattle.std.specs.Prelude.{Bool, true, false, ◌≡◌, ℕ, ◌+◌, ◌<◌, ◌⊎◌, List, [], ◌∷◌, length, slice_get, slice_set, Option, Some, None}
+use Rattle.std.specs.Prelude.{Bool, true, false, ◌≡◌, ℕ, ◌+◌, ◌<◌, ◌⊎◌, List, [], ◌∷◌, length, slice_get, slice_set, IsPermutation, Option, Some, None}
 use Rattle.std.specs.Bool.{MatchBool}
 use Rattle.std.specs.List.{list_any}
 use Rattle.std.proofs.Math.ListN.{replicate}
@@ -10,6 +10,7 @@ use Rattle.flow_types.specs.Frames.{clash_frame, frame_fits, IsFrame}
 use Rattle.flow_types.specs.declared.flow_frame.FlowFrame.{FlowFrame}
 use Rattle.flow_types.specs.declared.flow_type.FlowType.TheVariants.{Class}
 use Rattle.flow_verifier.specs.declared.method.Method.{Method}
+use Rattle.flow_verifier.specs.declared.method.Handler.{Handler}
 use Rattle.flow_verifier.specs.declared.method.Edge.{Edge}
 use Rattle.flow_verifier.specs.declared.method.Edge.TheVariants.{Next}
 use Rattle.flow_verifier.specs.declared.facts.Facts.{Facts}
@@ -19,8 +20,9 @@ use Rattle.flow_verifier.specs.declared.catches.Catch.{Catch}
 use Rattle.flow_verifier.specs.Methods.{ops_of, room_of}
 use Rattle.flow_verifier.specs.Ranges.{flag_at}
 use Rattle.flow_verifier.specs.Leading.{successors, ways_caught}
-use Rattle.flow_verifier.specs.Catching.{without_operands, TakenAt, IsCatching, IsUncaught}
-use Rattle.flow_verifier.specs.Given.{is_bad_at, given, target, edges}
+use Rattle.flow_verifier.specs.HandlerTrees.{handlers_in, IsBounded}
+use Rattle.flow_verifier.specs.Catching.{without_operands, AreCovering, TakenAt, IsCatching, IsUncaught}
+use Rattle.flow_verifier.specs.Given.{is_bad_at, catching, given, target, edges}
 use Rattle.flow_verifier.specs.Typing.{frame_at, FitsPlace, FitsThere, entry_frame, IsAssignment, IsClosed}
 
 -- i stands on the list
@@ -73,9 +75,11 @@ pub record IsTakenOff (p : Program) (m : Method) (at j : ℕ)
 
 -- ---- the code's view
 
--- for each place whether a bad handler is there
+-- for each place whether a bad handler is there, and the method's handlers in some order
 pub record IsKnown (p : Program) (m : Method) (facts : Facts) : Type 0 where
   pub bad : (i : ℕ) → flag_at facts.bad i ≡ list_any (is_bad_at p i) m.handlers
+  pub handlers : IsPermutation m.handlers (handlers_in facts.handlers)
+  pub bounded : IsBounded facts.handlers
 
 -- each place has a flag, and who is flagged stands on the list
 pub record IsMarked (s : Rising) : Type 0 where
@@ -118,7 +122,7 @@ pub record IsVisiting (p : Program) (m : Method) (v : Visit) (j : ℕ) (s : Risi
 pub record IsCaught (p : Program) (m : Method) (f : FlowFrame) (c : Catch) : Type 0 where
   pub placed : Placed
   pub is_placed : slice_get (ops_of p m.number) c.at ≡ Some placed
-  pub address : placed.at ≡ c.address
+  pub handlers : AreCovering p m c.at c.handlers
   pub frame : IsFrame (superclasses p) (room_of m) c.caught
   pub bare : without_operands c.caught ≡ c.caught
   pub above : frame_fits (superclasses p) (without_operands f) c.caught ≡ true
@@ -126,11 +130,12 @@ pub record IsCaught (p : Program) (m : Method) (f : FlowFrame) (c : Catch) : Typ
       TakenAt p m c.at c.caught (length m.handlers) gs
   pub catcher : IsCatcher c.caught c.thrown
 
--- it has flowed to those of the first n handlers that cover the place
+-- it has flowed to the first n of the handlers that cover the place
 pub record IsThrowing (p : Program) (m : Method) (c : Catch) (n : ℕ) (s : Rising) : Type 0 where
   pub frame : FlowFrame
   pub caught : IsCaught p m frame c
   pub partly : IsPartly p m c.at frame 0 s.frames s.todo
-  pub taken : TakenAt p m c.at c.caught n s.frames
+  pub taken : (k : ℕ) (h : Handler) → k < n → slice_get c.handlers k ≡ Some h →
+      FitsPlace (superclasses p) (given p m c.at c.caught (catching h)) (frame_at s.frames h.to)
   pub marked : IsMarked s
   pub catching : IsCatching p m s.frames s.catches

@@ -5,6 +5,7 @@ pub mod Typing
 pub mod Reasons
 pub mod Flowing
 pub mod Leading
+pub mod HandlerTrees
 pub mod Catching
 pub mod Going
 pub mod Potential

@@ -60,11 +60,7 @@ spread (t ∷ ts) = with_half t ++ spread ts
 abbrev pub parameters : Program → ℕ → List FlowType
 parameters p n = spread (receiver p n ++ map (desc_type p) (args_of p n))
 
--- a local that no parameter takes is Unusable
-abbrev pub type_or_unusable : Option FlowType → FlowType
-type_or_unusable o = from flow.Unusable (λ t. t) o
-
--- so many locals, where what lies past them is left out
+-- so many locals, of which those that no parameter takes are Unusable; what lies past them is left out
 abbrev pub fitted : ℕ → List FlowType → List FlowType
 fitted zero ts = []
 fitted (suc n) [] = flow.Unusable ∷ fitted n []

@@ -10,10 +10,13 @@ ghost use Rattle.flow_verifier.specs.Typing.{frame_at, FitsPlace};
 ghost use Rattle.flow_verifier.specs.Flowing.{IsAlike, IsMore};
 ghost use Rattle.flow_verifier.specs.Ranges.{range_at};
 ghost use Rattle.flow_verifier.specs.Leading.{ways_caught};
+ghost use Rattle.flow_verifier.specs.HandlerTrees.{handlers_in, IsBounded};
 ghost use Rattle.flow_verifier.specs.Catching.{without_operands, IsCatching, IsUncaught};
-ghost use Rattle.flow_verifier.specs.Going.{IsMarked, IsGoing, IsTakenOff, IsThrowing};
+ghost use Rattle.flow_verifier.specs.Going.{IsKnown, IsMarked, IsGoing, IsTakenOff, IsThrowing};
 ghost use Rattle.flow_verifier.specs.Potential.{potential};
 
+use crate::facts::Facts;
+use crate::handler_tree::HandlerTree;
 use crate::method::{Handler, Method, address_of};
 use crate::ranges::Ranges;
 use crate::rising::{Rising, frame_at, no_frames};
@@ -33,14 +36,14 @@ pub(crate) struct Catches {
     pub frames: List<Option<SharedFrame>>,
 }
 
-/// What flows to the handlers of a place: what its range has caught, and the same below the class
-/// that a handler takes.
+/// What flows to the handlers of a place: what its range has caught, the same below the class that
+/// a handler takes, and the handlers that cover the place.
 #[derive(Drop)]
 pub(crate) struct Catch {
     pub at: u32,
-    pub address: u32,
     pub caught: SharedFrame,
     pub thrown: SharedFrame,
+    pub handlers: List<Handler>,
 }
 
 impl Catches {
@@ -85,31 +88,18 @@ impl Catch {
     }
 }
 
-fn is_covered(at: u32, handler: &Handler) -> bool
-    ensures { result ≡ covers at handler.now }
-{
-    handler.start <= at && at < handler.until
-}
-
-/// Whether one of the handlers covers an address.
-fn any_covers(handlers: &[Handler], at: u32) -> bool
-    ensures { result ≡ list_any (covers at) handlers.now }
-{
-    for k in 0..handlers.len() {
-        if is_covered(at, &handlers[k]) {
-            return true;
-        }
-    }
-    false
-}
-
 /// What a range catches at first. Where no handler covers it, the clash frame, above which nothing
 /// lies.
-fn first_caught(m: &Method, address: u32, f: &SharedFrame) -> Result<SharedFrame, NoMemory>
-    ensures { IfOk result (λ c. c ≡ (if list_any (covers address) m.now.handlers
+fn first_caught(
+    handlers: &HandlerTree,
+    address: u32,
+    f: &SharedFrame,
+) -> Result<SharedFrame, NoMemory>
+    requires { IsBounded handlers.now }
+    ensures { IfOk result (λ c. c ≡ (if list_any (covers address) (handlers_in handlers.now)
         then without_operands f.now else clash_frame)) }
 {
-    if any_covers(m.handlers.as_slice(), address) {
+    if handlers.any_covers(address) {
         f.without_operands()
     } else {
         Ok(SharedFrame::clash())
@@ -145,21 +135,22 @@ fn raised(
 fn more_caught(
     alloc: Global,
     image: &Image,
-    m: &Method,
+    handlers: &HandlerTree,
     address: u32,
     before: &Option<SharedFrame>,
     f: &SharedFrame,
 ) -> Result<Option<SharedFrame>, NoMemory>
     requires tree { IsTree (superclasses image.now) }
+    requires bounded { IsBounded handlers.now }
     requires alike { IsAlike (without_operands f.now) before.now }
     ensures { IfOk result (λ o. MatchOption o
         (FitsPlace (superclasses image.now) (without_operands f.now) before.now)
-        (λ c. IsMore (superclasses image.now) (list_any (covers address) m.now.handlers)
-        before.now f.now c)) }
+        (λ c. IsMore (superclasses image.now)
+        (list_any (covers address) (handlers_in handlers.now)) before.now f.now c)) }
 {
     match before {
         Some(before) => raised(alloc, image, before, f),
-        None => Ok(Some(first_caught(m, address, f)?)),
+        None => Ok(Some(first_caught(handlers, address, f)?)),
     }
 }
 
@@ -171,10 +162,12 @@ impl Rising {
         alloc: Global,
         image: &Image,
         m: &Method,
+        facts: &Facts,
         at: u32,
     ) -> Result<Option<Catch>, NoMemory>
         requires tree { IsTree (superclasses image.now) }
         requires fine { IsMethod image.now m.now }
+        requires known { IsKnown image.now m.now facts.now }
         requires marked { IsMarked self.now }
         requires catching { IsCatching image.now m.now self.now.frames self.now.catches }
         requires going { IsGoing image.now m.now self.now.frames (self.now.todo ++ at ∷ []) }
@@ -189,19 +182,20 @@ impl Rising {
         };
         let address = address_of(image, m, at as usize);
         let before = self.catches.of(at);
-        let Some(caught) = more_caught(alloc, image, m, address, before, f)? else {
+        let Some(caught) = more_caught(alloc, image, &facts.handlers, address, before, f)? else {
             return Ok(None);
         };
         let thrown = caught.catcher(alloc, m)?;
+        let handlers = facts.handlers.covering(alloc, address)?;
         Ok(Some(Catch {
             at,
-            address,
             caught,
             thrown,
+            handlers,
         }))
     }
 
-    /// Lets what a range has caught flow to a handler, if it covers the place.
+    /// Lets what a range has caught flow to one of the handlers that cover the place.
     fn throw<L: Ledger>(
         &mut self,
         alloc: Global,
@@ -213,24 +207,19 @@ impl Rising {
     ) -> Result<(), NoMemory>
         requires tree { IsTree (superclasses image.now) }
         requires fine { IsMethod image.now m.now }
-        requires handler { k < length m.now.handlers }
+        requires handler { k < length catch.old.handlers }
         requires throwing { IsThrowing image.now m.now catch.old k self.old }
         ensures at { catch.new.at ≡ catch.old.at }
-        ensures address { catch.new.address ≡ catch.old.address }
+        ensures handlers { catch.new.handlers ≡ catch.old.handlers }
         ensures throwing { OnOk result (IsThrowing image.now m.now catch.new (k + 1) self.new) }
         ensures falls { OnOk result ((w : ℕ → ℕ)
             → potential image.now m.now w self.new.frames self.new.todo
             ≤ potential image.now m.now w self.old.frames self.old.todo) }
-        ensures cost { (h : Handler) → slice_get m.now.handlers k ≡ Some h → steps.new
-            ≤ steps.old + (if covers catch.old.address h then 1 else 0) }
+        ensures cost { steps.new ≤ steps.old + 1 }
     {
-        let handler = &m.handlers.as_slice()[k];
-        if is_covered(catch.address, handler) {
-            catch.thrown.put_class(alloc, handler.class)?;
-            self.flow(alloc, image, &catch.thrown, handler.to, steps)
-        } else {
-            Ok(())
-        }
+        let handler = catch.handlers.as_slice()[k];
+        catch.thrown.put_class(alloc, handler.class)?;
+        self.flow(alloc, image, &catch.thrown, handler.to, steps)
     }
 
     /// Lets what a range has caught flow to each handler that covers the place.
@@ -247,13 +236,13 @@ impl Rising {
         requires throwing { IsThrowing image.now m.now catch.old 0 self.old }
         ensures at { catch.new.at ≡ catch.old.at }
         ensures throwing { OnOk result
-            (IsThrowing image.now m.now catch.new (length m.now.handlers) self.new) }
+            (IsThrowing image.now m.now catch.new (length catch.new.handlers) self.new) }
         ensures falls { OnOk result ((w : ℕ → ℕ)
             → potential image.now m.now w self.new.frames self.new.todo
             ≤ potential image.now m.now w self.old.frames self.old.todo) }
         ensures cost { steps.new ≤ steps.old + ways_caught image.now m.now catch.old.at }
     {
-        for k in 0..m.handlers.len() {
+        for k in 0..catch.handlers.len() {
             self.throw(alloc, image, m, catch, k, steps)?;
         }
         Ok(())
@@ -266,11 +255,13 @@ impl Rising {
         alloc: Global,
         image: &Image,
         m: &Method,
+        facts: &Facts,
         at: u32,
         steps: &mut Steps<L>,
     ) -> Result<(), NoMemory>
         requires tree { IsTree (superclasses image.now) }
         requires fine { IsMethod image.now m.now }
+        requires known { IsKnown image.now m.now facts.now }
         requires marked { IsMarked self.old }
         requires catching { IsCatching image.now m.now self.old.frames self.old.catches }
         requires going { IsGoing image.now m.now self.old.frames (self.old.todo ++ at ∷ []) }
@@ -284,7 +275,7 @@ impl Rising {
             ≤ potential image.now m.now w self.old.frames self.old.todo) }
         ensures cost { steps.new ≤ steps.old + ways_caught image.now m.now at }
     {
-        let Some(mut catch) = self.catch_of(alloc, image, m, at)? else {
+        let Some(mut catch) = self.catch_of(alloc, image, m, facts, at)? else {
             return Ok(());
         };
         self.throw_to_all(alloc, image, m, &mut catch, steps)?;

@@ -1,4 +1,4 @@
-//! What is known of each place of a method before frames flow.
+//! What is known of a method before frames flow.
 
 ghost use Rattle.std.specs.Prelude.{◌≡◌, ◌<◌, ◌||◌, ℕ, length, IfOk};
 ghost use Rattle.std.specs.List.{list_any};
@@ -7,6 +7,7 @@ ghost use Rattle.flow_verifier.specs.Given.{is_bad_at};
 ghost use Rattle.flow_verifier.specs.Ranges.{flag_at};
 ghost use Rattle.flow_verifier.specs.Going.{IsKnown};
 
+use crate::handler_tree::HandlerTree;
 use crate::method::{Handler, Method, ops_of};
 use crate::rising::no_flags;
 use flow_types::is_sub;
@@ -15,11 +16,12 @@ use jvm_base::{List, NoMemory};
 use program_image::Image;
 use std::alloc::Global;
 
-/// For each place whether a handler there catches a class that isn't thrown, found once, so that a
-/// visit doesn't search the handlers.
+/// For each place whether a handler there catches a class that isn't thrown, and the handlers in a
+/// tree, both found once, so that a visit doesn't search the handlers.
 #[derive(Drop)]
 pub(crate) struct Facts {
     pub bad: List<bool>,
+    pub handlers: HandlerTree,
 }
 
 /// Flags the place of a handler that catches a class which isn't thrown.
@@ -49,13 +51,14 @@ fn bad_places(alloc: Global, image: &Image, m: &Method) -> Result<List<bool>, No
 }
 
 impl Facts {
-    /// What is known of a method's places.
+    /// What is known of a method.
     pub fn new(alloc: Global, image: &Image, m: &Method) -> Result<Facts, NoMemory>
         requires fine { IsMethod image.now m.now }
         ensures { IfOk result (λ facts. IsKnown image.now m.now facts) }
     {
         Ok(Facts {
             bad: bad_places(alloc, image, m)?,
+            handlers: HandlerTree::new(alloc, m.handlers.as_slice())?,
         })
     }
 

@@ -6,6 +6,7 @@ mod catches;
 mod facts;
 mod frames;
 mod given;
+mod handler_tree;
 mod method;
 mod ranges;
 mod rising;

@@ -4,13 +4,14 @@ ghost use Rattle.std.specs.Prelude.{◌≡◌, ◌<◌, ◌^◌, ◌++◌, ◌+�
 ghost use Rattle.program_image.specs.Program.{target_of};
 ghost use Rattle.program_image.specs.Handlers.{code_of};
 ghost use Rattle.instruction_table.specs.ClassTypes.{desc_type, args_of};
-ghost use Rattle.flow_verifier.specs.Methods.{type_or_unusable, ops_of, place_of, begins_fresh, receiver, with_half, spread, parameters, fitted, class_caught, handler_class, handlers_from, method_with, IsMethod};
+ghost use Rattle.flow_verifier.specs.Methods.{ops_of, place_of, begins_fresh, receiver, with_half, spread, parameters, fitted, class_caught, handler_class, handlers_from, method_with, IsMethod};
 
 use code_table::{Code, Placed};
 use flow_types::FlowType;
 use instruction_table::{THROWABLE, desc_type, is_initialiser, is_static, owner_of, plain};
 use jvm_base::{Desc, List, NoMemory, TableItem};
 use program_image::{Body, Image, Target};
+use shared_types::Types;
 use std::alloc::Global;
 
 /// An entry of an exception table: the range of addresses, the place of the handler, and the class
@@ -37,7 +38,7 @@ pub enum Edge {
 pub struct Method {
     pub number: u32,
     pub max_stack: u32,
-    pub entry: List<FlowType>,
+    pub entry: Types,
     pub fresh: bool,
     pub crowded: bool,
     pub handlers: List<Handler>,
@@ -125,24 +126,15 @@ fn parameters(alloc: Global, image: &Image, number: u32) -> Result<List<FlowType
     Ok(locals)
 }
 
-/// The type of a local at entry: Unusable, where no parameter lies there.
-fn type_at(types: &[FlowType], i: usize) -> FlowType
-    ensures { result ≡ type_or_unusable (slice_get types.now i) }
-{
-    match types.get(i) {
-        Some(t) => *t,
-        None => FlowType::Unusable,
-    }
-}
-
-/// So many locals, where what lies past them is left out.
-#[tactic(auto, using(crate::proofs::Fitting::fit_end, crate::proofs::Fitting::fit_start))]
-fn fitted(alloc: Global, count: u32, types: &[FlowType]) -> Result<List<FlowType>, NoMemory>
+/// So many locals, where what lies past them is left out. Those that no parameter takes cost no
+/// time.
+#[tactic(auto, using(crate::proofs::Fitting::all_fitted, crate::proofs::Fitting::first_fitted, crate::proofs::Fitting::length_fitted))]
+fn fitted(alloc: Global, count: u32, types: &[FlowType]) -> Result<Types, NoMemory>
     ensures { IfOk result (λ ts. ts ≡ fitted count types.now) }
 {
-    let mut locals = List::new(alloc);
-    for i in 0..count {
-        locals.push(type_at(types, i as usize))?;
+    let mut locals = Types::unusable(count as usize);
+    for i in 0..types.len().min(count as usize) {
+        locals.set(alloc, i, types[i])?;
     }
     Ok(locals)
 }

@@ -99,7 +99,7 @@ impl Rising {
     {
         let count = ops_of(image, m.number).len();
         let mut frames = no_frames(alloc, count)?;
-        frames.set(0, Some(SharedFrame::entry(alloc, m)?));
+        frames.set(0, Some(SharedFrame::entry(m)?));
         let queued = no_flags(alloc, count)?;
         let catches = Catches::new(alloc, image, m)?;
         let mut todo = List::new(alloc);

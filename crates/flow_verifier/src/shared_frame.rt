@@ -64,12 +64,12 @@ impl SharedFrame {
         }
     }
 
-    /// The frame in which a method begins.
-    pub(crate) fn entry(alloc: Global, m: &Method) -> Result<SharedFrame, NoMemory>
+    /// The frame in which a method begins. It takes no memory.
+    pub(crate) fn entry(m: &Method) -> Result<SharedFrame, NoMemory>
         ensures { IfOk result (λ f. f ≡ entry_frame m.now) }
     {
         Ok(SharedFrame {
-            locals: Types::from_list(alloc, m.entry.as_slice())?,
+            locals: m.entry.share()?,
             stack: Stack::new(m.max_stack as usize + 1),
             fresh: m.fresh,
             clash: false,

@@ -161,7 +161,7 @@ impl Rising {
             ≤ potential image.now m.now w self.old.frames self.old.todo) }
         ensures cost { steps.new ≤ steps.old + length (edges image.now m.now at) }
     {
-        self.catch(alloc, image, m, at, steps)?;
+        self.catch(alloc, image, m, facts, at, steps)?;
         self.go_on(alloc, image, m, facts, at, steps)
     }
 }

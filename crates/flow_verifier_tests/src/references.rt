@@ -136,7 +136,7 @@ const UNINITIALISED: &str = "
 9 m ()V 2.0 new:T 03 putfield:T.y.I b1 -> rule 10 at 4
 # 0 new Object, 3 nop, 4 iconst_0, 5 ifne 3, 8 a call of <init>: it may stand there at a jump back
 9 m ()V 2.0 new:java/lang/Object 00 03 9a fffe invokespecial:java/lang/Object.<init>.()V b1 -> ok
-# the last of two made by one instruction; the first isn't initialised: 0 new, astore_0, iload_1, ifne 0
+# the last of two made by one instruction; the first isn't initialised: 0 new, astore_1, iload_0, ifne 0
 9 m (I)V 1.2 new:A 4b 1a b1 -> rule 6 at 4
 9 m (I)V 1.2 new:A 4c 1a 9a fffb 2b invokespecial:A.<init>.()V b1 -> ok
 9 m (I)V 2.3 new:A 4c 2b 4d 2b invokespecial:A.<init>.()V 2c invokestatic:A.s.(LA;)V b1 -> ok
@@ -166,6 +166,17 @@ const INITIALISER: &str = "
 1 <init> (I)V 1.2 1b 99 0008 2a invokespecial:A.<init>.()V b1 01 bf -> ok
 1 <init> ()V 1.1 01 bf -> ok
 1 <init> ()V 1.1 a7 0000 -> ok
+# where it meets itself it stays, in a local and on the stack: iload_1, ifeq, the first, goto, the other
+1 <init> (I)V 1.3 1b 99 0008 2a 4d a7 0005 2a 4d 2c invokespecial:A.<init>.()V b1 -> ok
+1 <init> (I)V 1.2 1b 99 0007 2a a7 0004 2a invokespecial:A.<init>.()V b1 -> ok
+# it has no join with null, an int, what is made by new, an object of the class, or an array
+1 <init> (I)V 1.3 1b 99 0008 2a 4d a7 0005 01 4d 2c invokespecial:A.<init>.()V b1 -> rule 6 at 11
+1 <init> (I)V 1.3 1b 99 0008 01 4d a7 0005 2a 4d 2c invokespecial:A.<init>.()V b1 -> rule 6 at 11
+1 <init> (I)V 1.3 1b 99 0008 2a 4d a7 0005 03 3d 2c invokespecial:A.<init>.()V b1 -> rule 6 at 11
+1 <init> (I)V 1.3 1b 99 0008 2a 4d a7 0007 new:A 4d 2c invokespecial:A.<init>.()V b1 -> rule 6 at 13
+1 <init> (ILT;)V 1.4 1b 99 0008 2a 4e a7 0005 2c 4e 2d invokespecial:A.<init>.()V b1 -> rule 6 at 11
+1 <init> (I[I)V 1.4 1b 99 0008 2a 4e a7 0005 2c 4e 2d invokespecial:A.<init>.()V b1 -> rule 6 at 11
+1 <init> (I)V 1.2 1b 99 0007 2a a7 0004 01 invokespecial:A.<init>.()V b1 -> rule 7 at 9
 # to a handler the locals flow from before the call
 1 <init> ()V 1.1 2a invokespecial:A.<init>.()V b1 57 b1 catch:0.4.5.any -> rule 11 at 6
 1 <init> ()V 1.1 2a invokespecial:A.<init>.()V 00 b1 57 b1 catch:4.5.6.any -> ok

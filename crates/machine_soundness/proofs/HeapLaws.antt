@@ -26,7 +26,7 @@ use Rattle.flow_types.specs.declared.flow_type.FlowType.TheVariants as flow
 use Rattle.instruction_table.specs.ClassTypes.{array_at, class_type, desc_type, element_type, ground_type}
 use Rattle.machine_state.proofs.MapLaws.{find-put, find-replace}
 use Rattle.machine_state.proofs.NameTests.{name_itself, names_total, some_is}
-use Rattle.machine_state.specs.Changes.{Becomes, Change, Freed, Lost, Made, Moved, MovedAll, Owned, Printed, SetsContent, SetsElement, SetsField, Sleeps, Started, altered, change, changed, with_content, with_element, with_field}
+use Rattle.machine_state.specs.Changes.{Becomes, Change, Finished, Freed, Lost, Made, Moved, MovedAll, Owned, Printed, SetsContent, SetsElement, SetsField, Sleeps, Started, altered, change, changed, with_content, with_element, with_field}
 use Rattle.machine_state.specs.Classes.{element_zero}
 use Rattle.machine_state.specs.State.{Heap, State, body_at}
 use Rattle.frame_soundness.proofs.GrowLaws.{Grows}
@@ -168,6 +168,7 @@ module _ (image : Program) (more : Name → Bool) where
   change-keeps (MovedAll n) m h fit = fit
   change-keeps (Becomes k s) m h fit = fit
   change-keeps (Started n) m h fit = fit
+  change-keeps (Finished t) m h fit = fit
   change-keeps (Lost u) m h fit = fit
   change-keeps (Printed us) m h fit = fit
 

@@ -158,7 +158,7 @@ module _ (image : Program) (classes : Classes image) (m : State) (c : Choice) wh
   still d ts e k q = record { changes = rw e tt; answer = rw (k, q) refl }
 
   -- an exception is made and raised, before changes that fit
-  fault-fits : (k : ℕ) (extra : List Change) (ts : List FlowType) → has faults k ≡ true → ((more : Name → Bool) → ChangesFit image more extra) → name_fits m.heap c.name (k ∷ []) ≡ true → DeedFits image m (faulted image c.name k extra) ts
+  fault-fits : (k : ℕ) (extra : List Change) (ts : List FlowType) → has faults k ≡ true → ((more : Name → Bool) → ChangesFit image more extra) → name_fits m.heap c.name (k ∷ []) ≡ true → DeedFits image m (record (faulted image c.name k) { changes = Made c.name (Fields (zeros_of image k)) ∷ extra }) ts
   fault-fits k extra ts f x h =
       let n : NameOf c.name k = name-of m.heap c.name k [] h in
       let s : IsFault image k = classes.fault k f in
@@ -171,7 +171,7 @@ module _ (image : Program) (classes : Classes image) (m : State) (c : Choice) wh
       }
 
   -- an exception is made and raised
-  plain-fault : (k : ℕ) (ts : List FlowType) → has faults k ≡ true → name_fits m.heap c.name (k ∷ []) ≡ true → DeedFits image m (faulted image c.name k []) ts
+  plain-fault : (k : ℕ) (ts : List FlowType) → has faults k ≡ true → name_fits m.heap c.name (k ∷ []) ≡ true → DeedFits image m (faulted image c.name k) ts
   plain-fault k ts f h = fault-fits k [] ts f (λ more. tt) h
 
   -- a String is made
@@ -220,7 +220,7 @@ module _ (image : Program) (classes : Classes image) (m : State) (c : Choice) wh
             by_sign true w = absurd cc
             by_sign false w = w
 
-        by_element : (vs : List Value) → each_suits image (there_in m.heap) vs (component_type image a) ≡ true → (o : Option Value) → element_at i vs ≡ o → name_fits m.heap c.name (from (faulted image c.name array_index []) (λ v. reading (ElementOf n (unsigned_abs i)) (One v) (Some v)) o).makes ≡ true → DeedFits image m (from (faulted image c.name array_index []) (λ v. reading (ElementOf n (unsigned_abs i)) (One v) (Some v)) o) ts
+        by_element : (vs : List Value) → each_suits image (there_in m.heap) vs (component_type image a) ≡ true → (o : Option Value) → element_at i vs ≡ o → name_fits m.heap c.name (from (faulted image c.name array_index) (λ v. reading (ElementOf n (unsigned_abs i)) (One v) (Some v)) o).makes ≡ true → DeedFits image m (from (faulted image c.name array_index) (λ v. reading (ElementOf n (unsigned_abs i)) (One v) (Some v)) o) ts
         by_element vs s None w h = plain-fault array_index ts refl h
         by_element vs s (Some v) w h =
             let (p, r) = and_parts _ _ (each-get image (there_in m.heap) (unsigned_abs i) v (component_type image a) vs s (at-index vs v w)) in
@@ -230,14 +230,14 @@ module _ (image : Program) (classes : Classes image) (m : State) (c : Choice) wh
     served-store : (n : Name) (i : ℤ) (v : Value) (ts : List FlowType) → Asks image (there_in m.heap) (Store n i v) ts → (b : Option ObjectBody) → Served (store image c.name n i v b) ts
     served-store n i v ts (a, x, e, q) (Some (Array vs)) = some _ ts (by_element (element_at i vs))
       where
-        by_test : (z : Bool) → takes_value image n.class v ≡ z → name_fits m.heap c.name (if z then changing (SetsElement n (unsigned_abs i) v ∷ []) None else faulted image c.name array_store []).makes ≡ true → DeedFits image m (if z then changing (SetsElement n (unsigned_abs i) v ∷ []) None else faulted image c.name array_store []) ts
+        by_test : (z : Bool) → takes_value image n.class v ≡ z → name_fits m.heap c.name (if z then changing (SetsElement n (unsigned_abs i) v ∷ []) None else faulted image c.name array_store).makes ≡ true → DeedFits image m (if z then changing (SetsElement n (unsigned_abs i) v ∷ []) None else faulted image c.name array_store) ts
         by_test false w h = plain-fault array_store ts refl h
         by_test true w h = record {
           changes = ((λ b p. let r : a ≡ b = some_is (sym x.array ∙ p) in subst (λ z. suits image (there_in (change (SetsElement n (unsigned_abs i) v) m).heap) v (component_type image z) ≡ true) r (suit-one image (there_in m.heap) _ (change-grows (SetsElement n (unsigned_abs i) v) m) v (component_type image a) (and_both _ _ e.is_here (e.suits w)))), tt);
           answer = rw q refl;
         }
 
-        by_element : (o : Option Value) → name_fits m.heap c.name (from (faulted image c.name array_index []) (λ old. if takes_value image n.class v then changing (SetsElement n (unsigned_abs i) v ∷ []) None else faulted image c.name array_store []) o).makes ≡ true → DeedFits image m (from (faulted image c.name array_index []) (λ old. if takes_value image n.class v then changing (SetsElement n (unsigned_abs i) v ∷ []) None else faulted image c.name array_store []) o) ts
+        by_element : (o : Option Value) → name_fits m.heap c.name (from (faulted image c.name array_index) (λ old. if takes_value image n.class v then changing (SetsElement n (unsigned_abs i) v ∷ []) None else faulted image c.name array_store) o).makes ≡ true → DeedFits image m (from (faulted image c.name array_index) (λ old. if takes_value image n.class v then changing (SetsElement n (unsigned_abs i) v ∷ []) None else faulted image c.name array_store) o) ts
         by_element None h = plain-fault array_index ts refl h
         by_element (Some old) h = by_test (takes_value image n.class v) refl h
     served-store n i v ts a (Some (Fields vs)) = none ts
@@ -325,7 +325,7 @@ module _ (image : Program) (classes : Classes image) (m : State) (c : Choice) wh
         by_test false = record { changes = (x, tt); answer = rw q refl }
 
     -- a lock is left by another thread
-    exit-fits : (n : Name) (raising : Bool) (ts : List FlowType) → ts ≡ [] → name_fits m.heap c.name (if raising then quiet None else faulted image c.name monitor_state []).makes ≡ true → DeedFits image m (if raising then quiet None else faulted image c.name monitor_state []) ts
+    exit-fits : (n : Name) (raising : Bool) (ts : List FlowType) → ts ≡ [] → name_fits m.heap c.name (if raising then quiet None else faulted image c.name monitor_state).makes ≡ true → DeedFits image m (if raising then quiet None else faulted image c.name monitor_state) ts
     exit-fits n true ts q h = record { changes = tt; answer = rw q refl }
     exit-fits n false ts q h = plain-fault monitor_state ts refl h
 
@@ -372,8 +372,8 @@ module _ (image : Program) (classes : Classes image) (m : State) (c : Choice) wh
 
     -- a thread ends
     ends-fit : (t : ℕ) (e : Option Name) (ts : List FlowType) → ts ≡ [] → DeedFits image m (ends t e) ts
-    ends-fit t None ts q = record { changes = tt; answer = rw q refl }
-    ends-fit t (Some e) ts q = record { changes = (tt, tt); answer = rw q refl }
+    ends-fit t None ts q = record { changes = (tt, tt); answer = rw q refl }
+    ends-fit t (Some e) ts q = record { changes = (tt, (tt, tt)); answer = rw q refl }
 
     -- a thread that woke takes its lock again
     pub retakes-fit : (t : ℕ) (n : Name) (k : ℕ) (o : Option MonitorState) (ws : List ℕ) → there_in m.heap n ≡ true → Served (retakes t n k o ws) []

@@ -1,16 +1,17 @@
 -- The state after a step's changes: all but the thread that stepped.
-use Rattle.std.proofs.Common.{Bool, List, None, Some, [], ap, cond, false, if◌then◌else◌, inl, inr, length, not, refl, slice_get, slice_set, subst, suc, sym, true, zero, ℕ, ◌++◌, ◌∙◌, ◌∷◌, ◌≡◌, ◌≢◌, ◌⊎◌}
+use Rattle.std.proofs.Common.{Bool, List, None, Option, Some, [], ap, cond, false, if◌then◌else◌, inl, inr, length, not, refl, slice_get, slice_set, subst, suc, sym, true, zero, ℕ, ◌++◌, ◌∙◌, ◌∷◌, ◌≡◌, ◌≢◌, ◌⊎◌}
 use Rattle.std.proofs.lemmas.List.{length-set}
 use Rattle.std.specs.Prelude.{filter}
 use Rattle.jvm_base.proofs.NameLaws.{exact_names}
 use Rattle.jvm_base.specs.Maps.{find, put}
 use Rattle.jvm_base.specs.Names.{name_cmp, name_eq}
+use Rattle.jvm_base.specs.Words.{from}
 use Rattle.jvm_base.specs.declared.frame.Level.{Level}
 use Rattle.jvm_base.specs.declared.name.Name.{Name}
 use Rattle.program_image.specs.Program.{Program}
 use Rattle.machine_state.proofs.MapLaws.{find-where_key}
 use Rattle.machine_state.proofs.NameTests.{same_or, set_other, set_same, some_is}
-use Rattle.machine_state.specs.Changes.{Becomes, Change, Freed, Made, Moved, MovedAll, Owned, SetsContent, SetsElement, SetsField, Sleeps, Started, altered, change, changed, new_thread, waiter, with_content, with_element, with_field, without_owner}
+use Rattle.machine_state.specs.Changes.{Becomes, Change, Finished, Freed, Made, Moved, MovedAll, Owned, SetsContent, SetsElement, SetsField, Sleeps, Started, altered, change, changed, ended, new_thread, waiter, with_content, with_element, with_ended, with_field, without_owner}
 use Rattle.machine_state.specs.State.{Owners, State, owner_at}
 use Rattle.machine_state.specs.Step.{Taken, after, moved_on}
 use Rattle.machine_state.specs.declared.state.Mode.{Mode}
@@ -23,7 +24,7 @@ use Rattle.frame_soundness.specs.AcceptedProgram.{Types}
 use Rattle.machine_soundness.proofs.HeapLaws.{BodiesFit, ChangeFits, ChangesFit, bodies-grow, changes-grow, changes-keep, put-holds}
 use Rattle.machine_soundness.proofs.LevelGrowth.{levels-grow}
 use Rattle.machine_soundness.specs.Bodies.{there_in}
-use Rattle.machine_soundness.specs.Levels.{IsThread, ModeFits, ThreadFits}
+use Rattle.machine_soundness.specs.Levels.{IsThread, LevelsFit, ModeFits, ThreadFits}
 use Rattle.machine_soundness.specs.Sound.{AreThere, Premade, Sound}
 
 -- the heap after changes comes of the heap before alone
@@ -69,6 +70,29 @@ module _ (image : Program) (types : Types) (more : Name → Bool) where
   new-fits : (n : Name) → IsThread image more n → ThreadFits image types more (new_thread n)
   new-fits n h = record { object = h; levels = refl }
 
+  -- so does one after its last step
+  levels-ended : (mode : Mode) (ls : List Level) → ModeFits image types more mode ls → ModeFits image types more Ended ls
+  levels-ended Entry ls h = (None, subst (λ x. LevelsFit image types more None x) (sym h) tt)
+  levels-ended Running ls h = (None, h)
+  levels-ended (Raising e) ls h = (Some e, h.1)
+  levels-ended (Waiting n k) ls h = (None, h.1)
+  levels-ended Ended ls h = h
+
+  ended-fits : (th : ThreadState) → ThreadFits image types more th → ThreadFits image types more (ended th)
+  ended-fits th h = record { object = h.object; levels = levels-ended th.mode th.levels h.levels }
+
+  -- threads fit where one has ended
+  all-ended-fit : (t : ℕ) (ths : List ThreadState) → ThreadsFit ths → ThreadsFit (with_ended t ths)
+  all-ended-fit t ths fit u th e = by_thread (slice_get ths t) refl e
+    where
+      by_case : (x : ThreadState) → slice_get ths t ≡ Some x → (slice_get ths u ≡ Some th) ⊎ (th ≡ ended x) → ThreadFits image types more th
+      by_case x f (inl p) = fit u th p
+      by_case x f (inr p) = subst (λ y. ThreadFits image types more y) (sym p) (ended-fits x (fit t x f))
+
+      by_thread : (o : Option ThreadState) → slice_get ths t ≡ o → slice_get (from ths (λ x. slice_set ths t (ended x)) o) u ≡ Some th → ThreadFits image types more th
+      by_thread None f e = fit u th e
+      by_thread (Some x) f e = by_case x f (get-set ths t u (ended x) th e)
+
   -- threads fit after a change that fits
   threads-fit : (c : Change) (m : State) → ChangeFits image more c → ThreadsFit m.threads → ThreadsFit (change c m).threads
   threads-fit (Started n) m h fit = λ t th e. by_case t th (get-append m.threads (new_thread n) th t e)
@@ -76,6 +100,7 @@ module _ (image : Program) (types : Types) (more : Name → Bool) where
       by_case : (t : ℕ) (th : ThreadState) → (slice_get m.threads t ≡ Some th) ⊎ (th ≡ new_thread n) → ThreadFits image types more th
       by_case t th (inl p) = fit t th p
       by_case t th (inr p) = subst (λ x. ThreadFits image types more x) (sym p) (new-fits n h)
+  threads-fit (Finished t) m h fit = all-ended-fit t m.threads fit
   threads-fit _ m h fit = fit
 
   -- a lock is free
@@ -142,7 +167,7 @@ module _ (image : Program) (types : Types) where
   mode-grows there more g Running ls h = levels-grow image there more g types None ls h
   mode-grows there more g (Raising e) ls h = (record { is_here = g e h.0.is_here; fits = h.0.fits }, levels-grow image there more g types (Some e) ls h.1)
   mode-grows there more g (Waiting n k) ls h = (g n h.0, levels-grow image there more g types None ls h.1)
-  mode-grows there more g Ended ls h = levels-grow image there more g types None ls h
+  mode-grows there more g Ended ls h = (h.0, levels-grow image there more g types h.0 ls h.1)
 
   -- its Thread object
   object-grows : (there more : Name → Bool) → Grows there more → (n : Name) → IsThread image there n → IsThread image more n

@@ -76,14 +76,15 @@ LevelsFit p types there raised (Code f ∷ ls) =
 LevelsFit p types there raised (Init c begun ∷ ls) =
     (c < length p.classes) × Lower p types there ls
 
--- by what the thread is about
+-- by what the thread is about; where it has ended, it may have raised an exception
 abbrev pub ModeFits : Program → Types → (Name → Bool) → Mode → List Level → Type 0
 ModeFits p types there Entry ls = ls ≡ []
 ModeFits p types there Running ls = LevelsFit p types there None ls
 ModeFits p types there (Raising e) ls =
     IsThrown p there e × LevelsFit p types there (Some e) ls
 ModeFits p types there (Waiting n k) ls = (there n ≡ true) × LevelsFit p types there None ls
-ModeFits p types there Ended ls = LevelsFit p types there None ls
+ModeFits p types there Ended ls =
+    (raised : Option Name) × LevelsFit p types there raised ls
 
 -- an object of Thread, or of a class below it, that is there
 pub record IsThread (p : Program) (there : Name → Bool) (n : Name) : Type 0 where

@@ -14,15 +14,16 @@ use Rattle.program_image.specs.Program.{Program}
 use Rattle.jvm_base.specs.Names.{name_cmp, name_eq}
 use Rattle.jvm_base.specs.Words.{from}
 use Rattle.machine_state.specs.State.{State, Heap, body_at, Owners, owner_at, waiters_of}
-use Rattle.machine_state.specs.Changes.{waiter, without_waiter, without_waiters, without_owner, altered, with_field, with_element, with_content, Change, Made, SetsField, SetsElement, SetsContent, Owned, Freed, Sleeps, Moved, MovedAll, Becomes, Started, Lost, Printed, change, changed}
+use Rattle.machine_state.specs.Changes.{waiter, without_waiter, without_waiters, without_owner, altered, with_field, with_element, with_content, Change, Made, SetsField, SetsElement, SetsContent, Owned, Freed, Sleeps, Moved, MovedAll, Becomes, Started, Finished, Lost, Printed, ended, with_ended, change, changed}
 use Rattle.machine_state.specs.Requests.{Key, Nowhere, OfBody, OfLock, OfClass, OfThreads, OfConsole, Body, Lock, Class, cell, key_of}
 use Rattle.machine_state.specs.Deeds.{Deed}
 use Rattle.machine_state.specs.Step.{Taken, after, moved_on, taken_by, step, step_of}
 use Rattle.machine_state.specs.Laws.Locality.{IsAt, AreAt}
 use Rattle.machine_state.specs.Laws.Framing.{Elsewhere, OneHome, OneHomeLaw, OtherThreadsLaw}
-use Rattle.machine_state.proofs.NameTests.{names_total, some_is, set_other}
+use Rattle.machine_state.proofs.NameTests.{names_total, same_or, some_is, set_other}
 use Rattle.machine_state.proofs.Sources.{Source, idle, asks, wakes, of_taken}
 use Rattle.machine_state.proofs.LocalLaws.{local_served, local_retakes}
+use Rattle.machine_state.proofs.Endings.{EndsOwn, ended_other, ended_own, source_own}
 
 -- two names are one or a test tells them apart
 pub apart_or : (a b : Name) → (a ≡ b) ⊎ (name_eq a b ≡ false)
@@ -174,36 +175,67 @@ get_append [] ys u x e = absurd cc
 get_append (y ∷ xs) ys zero x e = e
 get_append (y ∷ xs) ys (suc u) x e = get_append xs ys u x e
 
--- a change leaves the threads that are there
-thread_kept : (h : Change) (m : State) (u : ℕ) (th : ThreadState) → slice_get m.threads u ≡ Some th → slice_get (change h m).threads u ≡ Some th
-thread_kept (Started n) m u th e = get_append m.threads _ u th e
-thread_kept (Made n b) m u th e = e
-thread_kept (SetsField n i v) m u th e = e
-thread_kept (SetsElement n i v) m u th e = e
-thread_kept (SetsContent n us) m u th e = e
-thread_kept (Owned n o) m u th e = e
-thread_kept (Freed n) m u th e = e
-thread_kept (Sleeps n t) m u th e = e
-thread_kept (Moved n t) m u th e = e
-thread_kept (MovedAll n) m u th e = e
-thread_kept (Becomes c s) m u th e = e
-thread_kept (Lost x) m u th e = e
-thread_kept (Printed us) m u th e = e
+-- changes leave the threads that are there, but for the one that ends
+pub threads_kept : (t : ℕ) (hs : List Change) (m : State) (u : ℕ) (th : ThreadState) → EndsOwn t hs → u ≢ t → slice_get m.threads u ≡ Some th → slice_get (changed hs m).threads u ≡ Some th
+threads_kept t [] m u th o ne e = e
+threads_kept t (Started n ∷ hs) m u th o ne e = threads_kept t hs (change (Started n) m) u th o ne (get_append m.threads _ u th e)
+threads_kept t (Finished x ∷ hs) m u th o ne e = threads_kept t hs (change (Finished x) m) u th o.1 ne (ended_other m.threads x u (λ h. ne (h ∙ o.0)) ∙ e)
+threads_kept t (Made n b ∷ hs) m u th o ne e = threads_kept t hs (change (Made n b) m) u th o ne e
+threads_kept t (SetsField n i v ∷ hs) m u th o ne e = threads_kept t hs (change (SetsField n i v) m) u th o ne e
+threads_kept t (SetsElement n i v ∷ hs) m u th o ne e = threads_kept t hs (change (SetsElement n i v) m) u th o ne e
+threads_kept t (SetsContent n us ∷ hs) m u th o ne e = threads_kept t hs (change (SetsContent n us) m) u th o ne e
+threads_kept t (Owned n x ∷ hs) m u th o ne e = threads_kept t hs (change (Owned n x) m) u th o ne e
+threads_kept t (Freed n ∷ hs) m u th o ne e = threads_kept t hs (change (Freed n) m) u th o ne e
+threads_kept t (Sleeps n x ∷ hs) m u th o ne e = threads_kept t hs (change (Sleeps n x) m) u th o ne e
+threads_kept t (Moved n x ∷ hs) m u th o ne e = threads_kept t hs (change (Moved n x) m) u th o ne e
+threads_kept t (MovedAll n ∷ hs) m u th o ne e = threads_kept t hs (change (MovedAll n) m) u th o ne e
+threads_kept t (Becomes c s ∷ hs) m u th o ne e = threads_kept t hs (change (Becomes c s) m) u th o ne e
+threads_kept t (Lost x ∷ hs) m u th o ne e = threads_kept t hs (change (Lost x) m) u th o ne e
+threads_kept t (Printed us ∷ hs) m u th o ne e = threads_kept t hs (change (Printed us) m) u th o ne e
 
--- so do changes
-pub threads_kept : (hs : List Change) (m : State) (u : ℕ) (th : ThreadState) → slice_get m.threads u ≡ Some th → slice_get (changed hs m).threads u ≡ Some th
-threads_kept [] m u th e = e
-threads_kept (h ∷ hs) m u th e = threads_kept hs (change h m) u th (thread_kept h m u th e)
+-- a thread that is there, but that it may have ended
+pub record Lasts (ths : List ThreadState) (u : ℕ) (th : ThreadState) : Type 0 where
+  pub thread : ThreadState
+  pub is_there : slice_get ths u ≡ Some thread
+  pub levels : thread.levels ≡ th.levels
+
+-- changes take no thread away
+pub threads_last : (hs : List Change) (m : State) (u : ℕ) (th : ThreadState) → slice_get m.threads u ≡ Some th → Lasts (changed hs m).threads u th
+threads_last [] m u th e = record { thread = th; is_there = e; levels = refl }
+threads_last (Started n ∷ hs) m u th e = threads_last hs (change (Started n) m) u th (get_append m.threads _ u th e)
+threads_last (Finished x ∷ hs) m u th e = by_place (same_or u x) (threads_last hs (change (Finished x) m) u)
+  where
+    last : State
+    last = changed hs (change (Finished x) m)
+
+    by_place : (u ≡ x) ⊎ (u ≢ x) → ((own : ThreadState) → slice_get (with_ended x m.threads) u ≡ Some own → Lasts last.threads u own) → Lasts last.threads u th
+    by_place (inl h) rest =
+        let here : slice_get (with_ended x m.threads) u ≡ Some (ended th) = ap (λ (y : ℕ). slice_get (with_ended y m.threads) u) (sym h) ∙ ended_own m.threads u th e in
+        let l = rest (ended th) here in
+        record { thread = l.thread; is_there = l.is_there; levels = l.levels }
+    by_place (inr ne) rest = rest th (ended_other m.threads x u ne ∙ e)
+threads_last (Made n b ∷ hs) m u th e = threads_last hs (change (Made n b) m) u th e
+threads_last (SetsField n i v ∷ hs) m u th e = threads_last hs (change (SetsField n i v) m) u th e
+threads_last (SetsElement n i v ∷ hs) m u th e = threads_last hs (change (SetsElement n i v) m) u th e
+threads_last (SetsContent n us ∷ hs) m u th e = threads_last hs (change (SetsContent n us) m) u th e
+threads_last (Owned n x ∷ hs) m u th e = threads_last hs (change (Owned n x) m) u th e
+threads_last (Freed n ∷ hs) m u th e = threads_last hs (change (Freed n) m) u th e
+threads_last (Sleeps n x ∷ hs) m u th e = threads_last hs (change (Sleeps n x) m) u th e
+threads_last (Moved n x ∷ hs) m u th e = threads_last hs (change (Moved n x) m) u th e
+threads_last (MovedAll n ∷ hs) m u th e = threads_last hs (change (MovedAll n) m) u th e
+threads_last (Becomes c s ∷ hs) m u th e = threads_last hs (change (Becomes c s) m) u th e
+threads_last (Lost x ∷ hs) m u th e = threads_last hs (change (Lost x) m) u th e
+threads_last (Printed us ∷ hs) m u th e = threads_last hs (change (Printed us) m) u th e
 
 -- the law
 pub other_threads : OtherThreadsLaw
 unfolding step moved_on
 other_threads image m l c u th e ne h = by_thread (slice_get m.threads c.thread) e
   where
-    by_taken : (own : ThreadState) (o : Option Taken) → from None (λ k. Some (moved_on m c.thread own k)) o ≡ Some l → slice_get l.threads u ≡ Some th
-    by_taken own None e = absurd cc
-    by_taken own (Some k) e = subst (λ (x : State). slice_get x.threads u ≡ Some th) (some_is e) (threads_kept k.deed.changes (record m { threads = slice_set m.threads c.thread (after own k.stand) }) u th (set_other m.threads c.thread u (after own k.stand) ne ∙ h))
+    by_taken : (own : ThreadState) (o : Option Taken) → taken_by image m c own ≡ o → from None (λ k. Some (moved_on m c.thread own k)) o ≡ Some l → slice_get l.threads u ≡ Some th
+    by_taken own None g e = absurd cc
+    by_taken own (Some k) g e = subst (λ (x : State). slice_get x.threads u ≡ Some th) (some_is e) (threads_kept c.thread k.deed.changes (record m { threads = slice_set m.threads c.thread (after own k.stand) }) u th (source_own image m c k.deed (of_taken image m c own k g)) ne (set_other m.threads c.thread u (after own k.stand) ne ∙ h))
 
     by_thread : (o : Option ThreadState) → step_of image m c o ≡ Some l → slice_get l.threads u ≡ Some th
     by_thread None e = absurd cc
-    by_thread (Some own) e = by_taken own (taken_by image m c own) e
+    by_thread (Some own) e = by_taken own (taken_by image m c own) refl e

@@ -9,7 +9,7 @@ use Rattle.program_image.specs.Program.{Program}
 use Rattle.jvm_base.specs.Names.{name_eq}
 use Rattle.jvm_base.specs.Words.{from}
 use Rattle.machine_state.specs.State.{State, Heap, body_at}
-use Rattle.machine_state.specs.Changes.{with_field, with_element, with_content, Change, Made, SetsField, SetsElement, SetsContent, Owned, Freed, Sleeps, Moved, MovedAll, Becomes, Started, Lost, Printed, change, changed}
+use Rattle.machine_state.specs.Changes.{with_field, with_element, with_content, Change, Made, SetsField, SetsElement, SetsContent, Owned, Freed, Sleeps, Moved, MovedAll, Becomes, Started, Finished, Lost, Printed, change, changed}
 use Rattle.machine_state.specs.Requests.{Key, Nowhere, OfBody, OfLock, key_of}
 use Rattle.machine_state.specs.Deeds.{Deed}
 use Rattle.machine_state.specs.Serve.{pick_fits, name_fits}
@@ -75,6 +75,7 @@ kept heap key name makes n b f e ne (Moved q t ∷ hs) m a d h = kept heap key n
 kept heap key name makes n b f e ne (MovedAll q ∷ hs) m a d h = kept heap key name makes n b f e ne hs (change (MovedAll q) m) a.1 d h
 kept heap key name makes n b f e ne (Becomes c s ∷ hs) m a d h = kept heap key name makes n b f e ne hs (change (Becomes c s) m) a.1 d h
 kept heap key name makes n b f e ne (Started q ∷ hs) m a d h = kept heap key name makes n b f e ne hs (change (Started q) m) a.1 d h
+kept heap key name makes n b f e ne (Finished t ∷ hs) m a d h = kept heap key name makes n b f e ne hs (change (Finished t) m) a.1 d h
 kept heap key name makes n b f e ne (Lost u ∷ hs) m a d h = kept heap key name makes n b f e ne hs (change (Lost u) m) a.1 d h
 kept heap key name makes n b f e ne (Printed us ∷ hs) m a d h = kept heap key name makes n b f e ne hs (change (Printed us) m) a.1 d h
 

@@ -7,7 +7,7 @@ use Rattle.jvm_base.specs.declared.frame.Level.{Level}
 use Rattle.jvm_base.proofs.NameLaws.{name_eq-true}
 use Rattle.machine_state.specs.declared.state.Choice.{Choice}
 use Rattle.machine_state.specs.declared.state.Mode.{Mode}
-use Rattle.machine_state.specs.declared.state.Mode.TheVariants.{Entry, Waiting}
+use Rattle.machine_state.specs.declared.state.Mode.TheVariants.{Entry, Waiting, Ended}
 use Rattle.machine_state.specs.declared.state.MonitorState.{MonitorState}
 use Rattle.machine_state.specs.declared.state.ThreadState.{ThreadState}
 use Rattle.program_image.specs.Program.{Program}
@@ -17,7 +17,7 @@ use Rattle.hierarchy.specs.Walks.{has}
 use Rattle.machine_state.specs.State.{State, owner_at, waiters_of}
 use Rattle.machine_state.specs.declared.request.Request.{Request}
 use Rattle.machine_state.specs.declared.request.Request.TheVariants.{Wait}
-use Rattle.machine_state.specs.Changes.{Change, Made, SetsField, SetsElement, SetsContent, Owned, Freed, Sleeps, Moved, MovedAll, Becomes, Started, Lost, Printed, change, changed, new_thread}
+use Rattle.machine_state.specs.Changes.{Change, Made, SetsField, SetsElement, SetsContent, Owned, Freed, Sleeps, Moved, MovedAll, Becomes, Started, Finished, Lost, Printed, change, changed, new_thread, with_ended}
 use Rattle.machine_state.specs.Events.{Locks, LockEvent, Enters, Leaves, Waits, Notifies, NotifiesAll, Retakes, Told, told_by, onto, body_writes, writes}
 use Rattle.machine_state.specs.declared.request.Answer.{Answer}
 use Rattle.machine_state.specs.Deeds.{reads_of, Deed, events_of, quiet, locking}
@@ -30,7 +30,8 @@ use Rattle.machine_state.specs.Start.{start, start_events, first_writes}
 use Rattle.machine_state.specs.PreMade.{pre_made, main_thread}
 use Rattle.machine_state.specs.LegalLocks.{Awake, Asleep, Woken, Standing, wakened, at_lock, lock_of, Allowed, standing, LegalLocks, LegalLocksLaw}
 use Rattle.machine_state.proofs.NameTests.{name_itself, same_or, test_true, test_false, some_is, not_both, set_same, set_other}
-use Rattle.machine_state.proofs.FrameLaws.{apart_or, threads_kept}
+use Rattle.machine_state.proofs.FrameLaws.{apart_or}
+use Rattle.machine_state.proofs.Endings.{EndOnly, EndsOwn, own_end_only, own_end, ended_other, ended_mode, ended_none, set_none}
 use Rattle.machine_state.proofs.WriteLaws.{onto_append}
 use Rattle.machine_state.proofs.LockDeeds.{LockDeed, free, first, again, left, slept, nobody, somebody, everybody, NotSlept, lock_served}
 use Rattle.machine_state.proofs.ModeActs.{NotWaiting, Acts, alone, asks, wakes, Taking, taking, mode_after, mode_asleep}
@@ -39,59 +40,91 @@ use Rattle.machine_state.proofs.LockSteps.{NoLock, no_lock-append, no_lock-body,
 
 -- ---- the threads after a step
 
--- a thread of the new list is an old one, or a new one in mode Entry
-from_changes : (hs : List Change) (m : State) (u : ℕ) (x : ThreadState) → slice_get (changed hs m).threads u ≡ Some x → (slice_get m.threads u ≡ Some x) ⊎ ((slice_get m.threads u ≡ None) × (x.mode ≡ Entry))
-from_changes [] m u x e = inl e
-from_changes (h ∷ hs) m u x e = before h (from_changes hs (change h m) u x e)
+-- where a thread of the new list comes from: it is an old one, or one that started, or one that has
+-- ended
+data Whence (P : ℕ → Type 0) (ts : List ThreadState) (u : ℕ) (x : ThreadState) : Type 0 where
+  stays : slice_get ts u ≡ Some x → Whence P ts u x
+  starts : slice_get ts u ≡ None → x.mode ≡ Entry → Whence P ts u x
+  finishes : P u → x.mode ≡ Ended → Whence P ts u x
+
+-- a thread before one is started behind them
+before_append : (ts : List ThreadState) (object : Name) (u : ℕ) (x : ThreadState) → slice_get (ts ++ new_thread object ∷ []) u ≡ Some x → (slice_get ts u ≡ Some x) ⊎ ((slice_get ts u ≡ None) × (x.mode ≡ Entry))
+before_append [] object zero x e = inr (refl, ap (λ (y : ThreadState). y.mode) (sym (some_is e)))
+before_append [] object (suc u) x e = absurd cc
+before_append (t ∷ ts) object zero x e = inl e
+before_append (t ∷ ts) object (suc u) x e = before_append ts object u x e
+
+-- none is there before where none is then
+none_append : (ts : List ThreadState) (object : Name) (u : ℕ) → slice_get (ts ++ new_thread object ∷ []) u ≡ None → slice_get ts u ≡ None
+none_append [] object u e = refl
+none_append (t ∷ ts) object zero e = absurd cc
+none_append (t ∷ ts) object (suc u) e = none_append ts object u e
+
+-- where one is started
+from_started : (P : ℕ → Type 0) (ts : List ThreadState) (object : Name) (u : ℕ) (x : ThreadState) → Whence P (ts ++ new_thread object ∷ []) u x → Whence P ts u x
+from_started P ts object u x (stays e) = by_place (before_append ts object u x e)
   where
-    in_append : (ts : List ThreadState) (object : Name) (u : ℕ) (x : ThreadState) → slice_get (ts ++ new_thread object ∷ []) u ≡ Some x → (slice_get ts u ≡ Some x) ⊎ ((slice_get ts u ≡ None) × (x.mode ≡ Entry))
-    in_append [] object zero x e = inr (refl, ap (λ (y : ThreadState). y.mode) (sym (some_is e)))
-    in_append [] object (suc u) x e = absurd cc
-    in_append (t ∷ ts) object zero x e = inl e
-    in_append (t ∷ ts) object (suc u) x e = in_append ts object u x e
+    by_place : (slice_get ts u ≡ Some x) ⊎ ((slice_get ts u ≡ None) × (x.mode ≡ Entry)) → Whence P ts u x
+    by_place (inl f) = stays f
+    by_place (inr f) = starts f.0 f.1
+from_started P ts object u x (starts e f) = starts (none_append ts object u e) f
+from_started P ts object u x (finishes p f) = finishes p f
 
-    none_append : (ts : List ThreadState) (object : Name) (u : ℕ) → slice_get (ts ++ new_thread object ∷ []) u ≡ None → slice_get ts u ≡ None
-    none_append [] object u e = refl
-    none_append (t ∷ ts) object zero e = absurd cc
-    none_append (t ∷ ts) object (suc u) e = none_append ts object u e
+-- where one ends
+from_finished : (P : ℕ → Type 0) (ts : List ThreadState) (t u : ℕ) (x : ThreadState) → P t → Whence P (with_ended t ts) u x → Whence P ts u x
+from_finished P ts t u x p (stays e) = by_place (same_or u t)
+  where
+    by_place : (u ≡ t) ⊎ (u ≢ t) → Whence P ts u x
+    by_place (inl h) = finishes (subst P (sym h) p) (ended_mode ts t x (ap (slice_get (with_ended t ts)) (sym h) ∙ e))
+    by_place (inr ne) = stays (sym (ended_other ts t u ne) ∙ e)
+from_finished P ts t u x p (starts e f) = starts (ended_none ts t u e) f
+from_finished P ts t u x p (finishes q f) = finishes q f
 
-    before : (h : Change) → (slice_get (change h m).threads u ≡ Some x) ⊎ ((slice_get (change h m).threads u ≡ None) × (x.mode ≡ Entry)) → (slice_get m.threads u ≡ Some x) ⊎ ((slice_get m.threads u ≡ None) × (x.mode ≡ Entry))
-    before (Started object) (inl e) = in_append m.threads object u x e
-    before (Started object) (inr p) = inr (none_append m.threads object u p.0, p.1)
-    before (Made n b) p = p
-    before (SetsField n i v) p = p
-    before (SetsElement n i v) p = p
-    before (SetsContent n us) p = p
-    before (Owned n o) p = p
-    before (Freed n) p = p
-    before (Sleeps n t) p = p
-    before (Moved n t) p = p
-    before (MovedAll n) p = p
-    before (Becomes c s) p = p
-    before (Lost y) p = p
-    before (Printed us) p = p
+-- where all is changed
+from_changes : (P : ℕ → Type 0) (hs : List Change) (m : State) (u : ℕ) (x : ThreadState) → EndOnly P hs → slice_get (changed hs m).threads u ≡ Some x → Whence P m.threads u x
+from_changes P [] m u x p e = stays e
+from_changes P (Started n ∷ hs) m u x p e = from_started P m.threads n u x (from_changes P hs (change (Started n) m) u x p e)
+from_changes P (Finished t ∷ hs) m u x p e = from_finished P m.threads t u x p.0 (from_changes P hs (change (Finished t) m) u x p.1 e)
+from_changes P (Made n b ∷ hs) m u x p e = from_changes P hs (change (Made n b) m) u x p e
+from_changes P (SetsField n i v ∷ hs) m u x p e = from_changes P hs (change (SetsField n i v) m) u x p e
+from_changes P (SetsElement n i v ∷ hs) m u x p e = from_changes P hs (change (SetsElement n i v) m) u x p e
+from_changes P (SetsContent n us ∷ hs) m u x p e = from_changes P hs (change (SetsContent n us) m) u x p e
+from_changes P (Owned n o ∷ hs) m u x p e = from_changes P hs (change (Owned n o) m) u x p e
+from_changes P (Freed n ∷ hs) m u x p e = from_changes P hs (change (Freed n) m) u x p e
+from_changes P (Sleeps n t ∷ hs) m u x p e = from_changes P hs (change (Sleeps n t) m) u x p e
+from_changes P (Moved n t ∷ hs) m u x p e = from_changes P hs (change (Moved n t) m) u x p e
+from_changes P (MovedAll n ∷ hs) m u x p e = from_changes P hs (change (MovedAll n) m) u x p e
+from_changes P (Becomes c s ∷ hs) m u x p e = from_changes P hs (change (Becomes c s) m) u x p e
+from_changes P (Lost y ∷ hs) m u x p e = from_changes P hs (change (Lost y) m) u x p e
+from_changes P (Printed us ∷ hs) m u x p e = from_changes P hs (change (Printed us) m) u x p e
 
 -- a thread that is not there after changes was not there before
 still_none : (hs : List Change) (m : State) (u : ℕ) → slice_get (changed hs m).threads u ≡ None → slice_get m.threads u ≡ None
-still_none hs m u e = by_thread (slice_get m.threads u) refl
-  where
-    by_thread : (o : Option ThreadState) → slice_get m.threads u ≡ o → slice_get m.threads u ≡ None
-    by_thread None f = f
-    by_thread (Some x) f = absurd (not_both e (threads_kept hs m u x f))
+still_none [] m u e = e
+still_none (Started n ∷ hs) m u e = none_append m.threads n u (still_none hs (change (Started n) m) u e)
+still_none (Finished t ∷ hs) m u e = ended_none m.threads t u (still_none hs (change (Finished t) m) u e)
+still_none (Made n b ∷ hs) m u e = still_none hs (change (Made n b) m) u e
+still_none (SetsField n i v ∷ hs) m u e = still_none hs (change (SetsField n i v) m) u e
+still_none (SetsElement n i v ∷ hs) m u e = still_none hs (change (SetsElement n i v) m) u e
+still_none (SetsContent n us ∷ hs) m u e = still_none hs (change (SetsContent n us) m) u e
+still_none (Owned n o ∷ hs) m u e = still_none hs (change (Owned n o) m) u e
+still_none (Freed n ∷ hs) m u e = still_none hs (change (Freed n) m) u e
+still_none (Sleeps n t ∷ hs) m u e = still_none hs (change (Sleeps n t) m) u e
+still_none (Moved n t ∷ hs) m u e = still_none hs (change (Moved n t) m) u e
+still_none (MovedAll n ∷ hs) m u e = still_none hs (change (MovedAll n) m) u e
+still_none (Becomes c s ∷ hs) m u e = still_none hs (change (Becomes c s) m) u e
+still_none (Lost y ∷ hs) m u e = still_none hs (change (Lost y) m) u e
+still_none (Printed us ∷ hs) m u e = still_none hs (change (Printed us) m) u e
 
--- nor one that is not there after another was set
-set_none : {A : Type 0} (xs : List A) (t u : ℕ) (y : A) → slice_get (slice_set xs t y) u ≡ None → slice_get xs u ≡ None
-set_none [] t u y e = refl
-set_none (x ∷ xs) zero zero y e = absurd cc
-set_none (x ∷ xs) (suc t) zero y e = absurd cc
-set_none (x ∷ xs) zero (suc u) y e = e
-set_none (x ∷ xs) (suc t) (suc u) y e = set_none xs t u y e
+-- a thread that ends is awake
+abbrev IsUp : (ℕ → Name → Standing) → ℕ → Type 0
+IsUp st u = (n : Name) → (st u n).stage ≡ Awake
 
 -- the modes agree after a step of thread t, where its own new mode does and others' go on fitting
 modes_after : (m : State) (t : ℕ) (own new : ThreadState) (hs : List Change) (st new_st : ℕ → Name → Standing) → slice_get m.threads t ≡ Some own → ModesAgree m.threads st
     → ((n : Name) → ModeFits n new.mode (new_st t n)) → ((u : ℕ) (n : Name) (mode : Mode) → u ≢ t → ModeFits n mode (st u n) → ModeFits n mode (new_st u n))
-    → ModesAgree (changed hs (record m { threads = slice_set m.threads t new })).threads new_st
-modes_after m t own new hs st new_st own_is a mine others = record { modes = λ u x e n. there u x n (from_changes hs (record m { threads = slice_set m.threads t new }) u x e); absent = λ u e n. gone u n (set_none m.threads t u new (still_none hs (record m { threads = slice_set m.threads t new }) u e)) }
+    → EndOnly (IsUp new_st) hs → ModesAgree (changed hs (record m { threads = slice_set m.threads t new })).threads new_st
+modes_after m t own new hs st new_st own_is a mine others ups = record { modes = λ u x e n. there u x n (from_changes (IsUp new_st) hs (record m { threads = slice_set m.threads t new }) u x ups e); absent = λ u e n. gone u n (set_none m.threads t u new (still_none hs (record m { threads = slice_set m.threads t new }) u e)) }
   where
     gone : (u : ℕ) (n : Name) → slice_get m.threads u ≡ None → (new_st u n).stage ≡ Awake
     gone u n e = others u n Entry (λ h. not_both e (ap (slice_get m.threads) h ∙ own_is)) (a.absent u e n)
@@ -100,9 +133,10 @@ modes_after m t own new hs st new_st own_is a mine others = record { modes = λ 
     at_thread u x n e (inl h) = subst (λ (y : ℕ). ModeFits n x.mode (new_st y n)) (sym h) (subst (λ (y : ThreadState). ModeFits n y.mode (new_st t n)) (sym (set_same m.threads t new x (ap (slice_get (slice_set m.threads t new)) (sym h) ∙ e))) (mine n))
     at_thread u x n e (inr ne) = others u n x.mode ne (a.modes u x (sym (set_other m.threads t u new ne) ∙ e) n)
 
-    there : (u : ℕ) (x : ThreadState) (n : Name) → (slice_get (slice_set m.threads t new) u ≡ Some x) ⊎ ((slice_get (slice_set m.threads t new) u ≡ None) × (x.mode ≡ Entry)) → ModeFits n x.mode (new_st u n)
-    there u x n (inl e) = at_thread u x n e (same_or u t)
-    there u x n (inr p) = subst (λ (y : Mode). ModeFits n y (new_st u n)) (sym p.1) (gone u n (set_none m.threads t u new p.0))
+    there : (u : ℕ) (x : ThreadState) (n : Name) → Whence (IsUp new_st) (slice_set m.threads t new) u x → ModeFits n x.mode (new_st u n)
+    there u x n (stays e) = at_thread u x n e (same_or u t)
+    there u x n (starts e f) = subst (λ (y : Mode). ModeFits n y (new_st u n)) (sym f) (gone u n (set_none m.threads t u new e))
+    there u x n (finishes p f) = subst (λ (y : Mode). ModeFits n y (new_st u n)) (sym f) (p n)
 
 -- ---- a step's own mode
 
@@ -189,11 +223,11 @@ head_is j k ks e f = cc
 -- a step whose thread neither waited before nor waits after, and whose event, if any, is calm
 calm_step : (m : State) (t : ℕ) (own new : ThreadState) (d : Deed) (st : ℕ → Name → Standing) → slice_get m.threads t ≡ Some own → ModesAgree m.threads st → NotWaiting own.mode → NotWaiting new.mode
     → Effect t st d.locks (changed d.changes (record m { threads = slice_set m.threads t new })).monitors (changed d.changes (record m { threads = slice_set m.threads t new })).waiting
-    → ((k : LockEvent) → d.locks ≡ k ∷ [] → Calm k) → Stepped m (changed d.changes (record m { threads = slice_set m.threads t new })) t st d.locks
-calm_step m t own new d st e a w v f c = record {
+    → ((k : LockEvent) → d.locks ≡ k ∷ [] → Calm k) → EndsOwn t d.changes → Stepped m (changed d.changes (record m { threads = slice_set m.threads t new })) t st d.locks
+calm_step m t own new d st e a w v f c ends = record {
   effect = f;
-  calm = λ x. modes_after m t own new d.changes st st e a (λ n. awake_fits n new.mode (st t n) v (awake n)) (λ u n mode ne g. g);
-  one = λ k x. modes_after m t own new d.changes st (after_lock st t k) e a (λ n. awake_fits n new.mode (after_lock st t k t n) v (still_awake st t k n (c k x) (awake n))) (λ u n mode ne g. others_fit st t k u n mode ne g);
+  calm = λ x. modes_after m t own new d.changes st st e a (λ n. awake_fits n new.mode (st t n) v (awake n)) (λ u n mode ne g. g) (own_end_only (IsUp st) t d.changes awake ends);
+  one = λ k x. modes_after m t own new d.changes st (after_lock st t k) e a (λ n. awake_fits n new.mode (after_lock st t k t n) v (still_awake st t k n (c k x) (awake n))) (λ u n mode ne g. others_fit st t k u n mode ne g) (own_end_only (IsUp (after_lock st t k)) t d.changes (λ n. still_awake st t k n (c k x) (awake n)) ends);
 }
   where
     awake : (n : Name) → (st t n).stage ≡ Awake
@@ -201,14 +235,14 @@ calm_step m t own new d st e a w v f c = record {
 
 -- a step that waits
 wait_step : (m : State) (t : ℕ) (own new : ThreadState) (d : Deed) (st : ℕ → Name → Standing) (n : Name) (o : MonitorState) → slice_get m.threads t ≡ Some own → LocksAgree m.monitors m.waiting st → ModesAgree m.threads st → NotWaiting own.mode
-    → new.mode ≡ Waiting n o.count → owner_at m.monitors n ≡ Some o → o.owner ≡ t → d.locks ≡ Waits n ∷ []
+    → new.mode ≡ Waiting n o.count → owner_at m.monitors n ≡ Some o → o.owner ≡ t → d.locks ≡ Waits n ∷ [] → d.changes ≡ Freed n ∷ Sleeps n t ∷ []
     → Effect t st d.locks (changed d.changes (record m { threads = slice_set m.threads t new })).monitors (changed d.changes (record m { threads = slice_set m.threads t new })).waiting
     → Stepped m (changed d.changes (record m { threads = slice_set m.threads t new })) t st d.locks
-wait_step m t own new d st n o e b a w v f g x y = record {
+wait_step m t own new d st n o e b a w v f g x h y = record {
   effect = y;
   calm = λ z. absurd (no_lock_list (Waits n) d.locks z x);
   one = λ k z. subst (λ (i : LockEvent). ModesAgree (changed d.changes (record m { threads = slice_set m.threads t new })).threads (after_lock st t i)) (head_is (Waits n) k d.locks x z)
-      (modes_after m t own new d.changes st (after_lock st t (Waits n)) e a (λ q. subst (λ (i : Mode). ModeFits q i (after_lock st t (Waits n) t q)) (sym v) (waits q)) (λ u q mode ne i. others_fit st t (Waits n) u q mode ne i));
+      (modes_after m t own new d.changes st (after_lock st t (Waits n)) e a (λ q. subst (λ (i : Mode). ModeFits q i (after_lock st t (Waits n) t q)) (sym v) (waits q)) (λ u q mode ne i. others_fit st t (Waits n) u q mode ne i) (subst (EndOnly (IsUp (after_lock st t (Waits n)))) (sym h) tt));
 }
   where
     asleep : Standing → Standing
@@ -243,7 +277,7 @@ request_step image m c own k r ls st e b a w p s l = by_deed l
     mode n = subst (λ x. NotWaiting x.0) (sym s) (mode_after image r k.deed.answer own.mode ls w n)
 
     quiet_step : NotSlept k.deed.answer → ((j : LockEvent) → k.deed.locks ≡ j ∷ [] → Calm j) → Stepped m (changed k.deed.changes (record m { threads = slice_set m.threads c.thread (after own k.stand) })) c.thread st k.deed.locks
-    quiet_step n calm = calm_step m c.thread own (after own k.stand) k.deed st e a w (mode n) effect calm
+    quiet_step n calm = calm_step m c.thread own (after own k.stand) k.deed st e a w (mode n) effect calm (own_end m c.thread c.pick r k.deed l)
 
     by_deed : LockDeed m c.thread c.pick r k.deed → Stepped m (changed k.deed.changes (record m { threads = slice_set m.threads c.thread (after own k.stand) })) c.thread st k.deed.locks
     by_deed (free f g n) = quiet_step n (λ j x. absurd (no_lock_list j k.deed.locks f x))
@@ -253,7 +287,7 @@ request_step image m c own k r ls st e b a w p s l = by_deed l
     by_deed (nobody n o h i z f g x) = quiet_step x (λ j y. calm_is (Notifies n None) j k.deed.locks tt f y)
     by_deed (somebody n o h i z ne f g x) = quiet_step x (λ j y. calm_is (Notifies n (Some c.pick)) j k.deed.locks tt f y)
     by_deed (everybody n o h i f g x) = quiet_step x (λ j y. calm_is (NotifiesAll n) j k.deed.locks tt f y)
-    by_deed (slept n o h i f g x z) = wait_step m c.thread own (after own k.stand) k.deed st n o e b a w (ap (λ y. y.0) s ∙ ap (λ (y : Request). (complete image y k.deed.answer own.mode ls).0) z ∙ ap (λ (y : Answer). (complete image (Wait n) y own.mode ls).0) x ∙ mode_asleep image n o.count own.mode ls) h i f effect
+    by_deed (slept n o h i f g x z) = wait_step m c.thread own (after own k.stand) k.deed st n o e b a w (ap (λ y. y.0) s ∙ ap (λ (y : Request). (complete image y k.deed.answer own.mode ls).0) z ∙ ap (λ (y : Answer). (complete image (Wait n) y own.mode ls).0) x ∙ mode_asleep image n o.count own.mode ls) h i f g effect
 
 -- a step that takes a lock again
 retake_step : (m : State) (t : ℕ) (own new : ThreadState) (st : ℕ → Name → Standing) (n : Name) (j : ℕ) → slice_get m.threads t ≡ Some own → LocksAgree m.monitors m.waiting st → ModesAgree m.threads st
@@ -267,7 +301,7 @@ retake_step m t own new st n j e b a w v f g = record {
   });
   calm = λ z. absurd (no_lock_list (Retakes n) (Retakes n ∷ []) z refl);
   one = λ k z. subst (λ (i : LockEvent). ModesAgree (changed (Owned n (owned t j) ∷ []) (record m { threads = slice_set m.threads t new })).threads (after_lock st t i)) (head_is (Retakes n) k (Retakes n ∷ []) refl z)
-      (modes_after m t own new (Owned n (owned t j) ∷ []) st (after_lock st t (Retakes n)) e a (λ q. awake_fits q new.mode (after_lock st t (Retakes n) t q) v (awake q (apart_or n q))) (λ u q mode ne i. others_fit st t (Retakes n) u q mode ne i));
+      (modes_after m t own new (Owned n (owned t j) ∷ []) st (after_lock st t (Retakes n)) e a (λ q. awake_fits q new.mode (after_lock st t (Retakes n) t q) v (awake q (apart_or n q))) (λ u q mode ne i. others_fit st t (Retakes n) u q mode ne i) tt);
 }
   where
     fits : (q : Name) → WaitsAt n j q (st t q)
@@ -316,7 +350,7 @@ taken_step : (image : Program) (m : State) (c : Choice) (own : ThreadState) (k :
 taken_step image m c own k st e b a g = by_act g.acts
   where
     by_act : Acts image m c own.mode k → Stepped m (changed k.deed.changes (record m { threads = slice_set m.threads c.thread (after own k.stand) })) c.thread st k.deed.locks
-    by_act (alone w d v) = subst (λ (x : Deed). Stepped m (changed x.changes (record m { threads = slice_set m.threads c.thread (after own k.stand) })) c.thread st x.locks) (sym d) (calm_step m c.thread own (after own k.stand) (quiet None) st e a w v (no_event refl b) (λ j x. absurd (no_lock_list j [] refl x)))
+    by_act (alone w d v) = subst (λ (x : Deed). Stepped m (changed x.changes (record m { threads = slice_set m.threads c.thread (after own k.stand) })) c.thread st x.locks) (sym d) (calm_step m c.thread own (after own k.stand) (quiet None) st e a w v (no_event refl b) (λ j x. absurd (no_lock_list j [] refl x)) tt)
     by_act (asks r ls w s t) = request_step image m c own k r ls st e b a w g.picks t (lock_served image c.thread m c r k.deed s)
     by_act (wakes n j w r v) = wake_step m c.thread own k st n j e b a w v r
 

@@ -5,9 +5,10 @@ pub mod HeapLaws
 pub mod WriteLaws
 pub mod LocalLaws
 pub mod WriteRuns
+pub mod LockDeeds
+pub mod Endings
 pub mod FrameLaws
 pub mod LikenessLaws
-pub mod LockDeeds
 pub mod ModeActs
 pub mod Agreements
 pub mod LockSteps

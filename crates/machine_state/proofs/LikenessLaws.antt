@@ -95,7 +95,7 @@ both_load image a b n i (Some (Fields vs)) = tt
 both_load image a b n i (Some (Text us)) = tt
 both_load image a b n i (Some (Array vs)) = by_value (element_at i vs)
   where
-    by_value : (v : Option Value) → DemandsAlike (from (faulted image a array_index []) (λ v. reading (ElementOf n (unsigned_abs i)) (One v) (Some v)) v) (from (faulted image b array_index []) (λ v. reading (ElementOf n (unsigned_abs i)) (One v) (Some v)) v)
+    by_value : (v : Option Value) → DemandsAlike (from (faulted image a array_index) (λ v. reading (ElementOf n (unsigned_abs i)) (One v) (Some v)) v) (from (faulted image b array_index) (λ v. reading (ElementOf n (unsigned_abs i)) (One v) (Some v)) v)
     by_value None = record { makes = refl; waiters = refl }
     by_value (Some v) = same _
 
@@ -106,8 +106,8 @@ both_store image a b n i v (Some (Fields vs)) = tt
 both_store image a b n i v (Some (Text us)) = tt
 both_store image a b n i v (Some (Array vs)) = by_value (element_at i vs)
   where
-    by_value : (o : Option Value) → DemandsAlike (from (faulted image a array_index []) (λ old. if takes_value image n.class v then changing (SetsElement n (unsigned_abs i) v ∷ []) None else faulted image a array_store []) o)
-        (from (faulted image b array_index []) (λ old. if takes_value image n.class v then changing (SetsElement n (unsigned_abs i) v ∷ []) None else faulted image b array_store []) o)
+    by_value : (o : Option Value) → DemandsAlike (from (faulted image a array_index) (λ old. if takes_value image n.class v then changing (SetsElement n (unsigned_abs i) v ∷ []) None else faulted image a array_store) o)
+        (from (faulted image b array_index) (λ old. if takes_value image n.class v then changing (SetsElement n (unsigned_abs i) v ∷ []) None else faulted image b array_store) o)
     by_value None = record { makes = refl; waiters = refl }
     by_value (Some w) = demands_if (takes_value image n.class v) _ _ _ _ (same _) (record { makes = refl; waiters = refl })
 

@@ -123,7 +123,7 @@ local_load image heap name n i key (Some (Fields vs)) e = none
 local_load image heap name n i key (Some (Text us)) e = none
 local_load image heap name n i key (Some (Array vs)) e = some heap name key _ (by_value (element_at i vs) refl)
   where
-    by_value : (v : Option Value) → element_at i vs ≡ v → Local heap name key (from (faulted image name array_index []) (λ v. reading (ElementOf n (unsigned_abs i)) (One v) (Some v)) v)
+    by_value : (v : Option Value) → element_at i vs ≡ v → Local heap name key (from (faulted image name array_index) (λ v. reading (ElementOf n (unsigned_abs i)) (One v) (Some v)) v)
     by_value None f = record { reads = tt; homes = (refl, tt) }
     by_value (Some v) f = record { reads = (held heap (ElementOf n (unsigned_abs i)) n (Array vs) (one_held (slice_get vs (unsigned_abs i))) (One v) refl e refl (ap one_held (element_is i vs v f)), tt); homes = tt }
 
@@ -134,7 +134,7 @@ local_store image heap name n i v (Some (Fields vs)) = none
 local_store image heap name n i v (Some (Text us)) = none
 local_store image heap name n i v (Some (Array vs)) = some heap name _ _ (by_value (element_at i vs))
   where
-    by_value : (o : Option Value) → Local heap name (key_of (Store n i v)) (from (faulted image name array_index []) (λ old. if takes_value image n.class v then changing (SetsElement n (unsigned_abs i) v ∷ []) None else faulted image name array_store []) o)
+    by_value : (o : Option Value) → Local heap name (key_of (Store n i v)) (from (faulted image name array_index) (λ old. if takes_value image n.class v then changing (SetsElement n (unsigned_abs i) v ∷ []) None else faulted image name array_store) o)
     by_value None = record { reads = tt; homes = (refl, tt) }
     by_value (Some w) = either_deed heap name _ (takes_value image n.class v) _ _ (record { reads = tt; homes = (refl, tt) }) (record { reads = tt; homes = (refl, tt) })
 
@@ -206,8 +206,8 @@ local_joins heap name (Some false) = none
 
 -- an end
 local_ends : (heap : Heap) (name : Name) (t : ℕ) (e : Option Name) → Local heap name OfThreads (ends t e)
-local_ends heap name t None = record { reads = tt; homes = tt }
-local_ends heap name t (Some e) = record { reads = tt; homes = (refl, tt) }
+local_ends heap name t None = record { reads = tt; homes = (refl, tt) }
+local_ends heap name t (Some e) = record { reads = tt; homes = (refl, (refl, tt)) }
 
 -- the begin of an initialisation
 local_begins : (heap : Heap) (name : Name) (t c : ℕ) (s : Option ClassState) → LocalIf heap name (OfClass c) (begins t c s)

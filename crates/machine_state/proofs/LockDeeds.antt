@@ -17,7 +17,7 @@ use Rattle.machine_state.specs.State.{State, owner_at, waiters_of}
 use Rattle.machine_state.specs.declared.request.Request.{Request}
 use Rattle.machine_state.specs.declared.request.Request.TheVariants.{Get, Put, Load, Store, Len, Make, MakeText, Fault, Enter, Exit, Wait, Notify, NotifyAll, Begin, InitDone, InitFail, Start, Join, Finish, Buffer, Print}
 use Rattle.machine_state.specs.Requests.{key_of, cell}
-use Rattle.machine_state.specs.Changes.{Change, Made, SetsElement, Owned, Freed, Sleeps, Moved, MovedAll, Becomes}
+use Rattle.machine_state.specs.Changes.{Change, Made, SetsElement, Owned, Freed, Sleeps, Moved, MovedAll, Becomes, Finished}
 use Rattle.machine_state.specs.Events.{Enters, Leaves, Waits, Notifies, NotifiesAll, FieldOf, ElementOf, One}
 use Rattle.machine_state.specs.declared.request.Answer.{Answer}
 use Rattle.machine_state.specs.declared.request.Answer.TheVariants.{Slept}
@@ -30,15 +30,16 @@ use Rattle.machine_state.proofs.NameTests.{some_is}
 use Rattle.machine_state.specs.BootClasses.{array_index, array_store}
 use Rattle.machine_state.specs.Intrinsics.{new_buffer, buffer_text, buffer_length}
 
--- changes that are of no lock
-abbrev pub Free : List Change → Type 0
-Free [] = Unit {0}
-Free (Owned n o ∷ hs) = ⊥
-Free (Freed n ∷ hs) = ⊥
-Free (Sleeps n t ∷ hs) = ⊥
-Free (Moved n t ∷ hs) = ⊥
-Free (MovedAll n ∷ hs) = ⊥
-Free (h ∷ hs) = Free hs
+-- changes that are of no lock, by which no thread but this one ends
+abbrev pub Free : ℕ → List Change → Type 0
+Free t [] = Unit {0}
+Free t (Owned n o ∷ hs) = ⊥
+Free t (Freed n ∷ hs) = ⊥
+Free t (Sleeps n u ∷ hs) = ⊥
+Free t (Moved n u ∷ hs) = ⊥
+Free t (MovedAll n ∷ hs) = ⊥
+Free t (Finished u ∷ hs) = (u ≡ t) × Free t hs
+Free t (h ∷ hs) = Free t hs
 
 -- the thread goes on
 abbrev pub NotSlept : Answer → Type 0
@@ -47,7 +48,7 @@ NotSlept a = Unit {0}
 
 -- what a deed of thread t does about locks
 pub data LockDeed (m : State) (t pick : ℕ) : Request → Deed → Type 0 where
-  free : {r : Request} {d : Deed} → d.locks ≡ [] → Free d.changes → NotSlept d.answer → LockDeed m t pick r d
+  free : {r : Request} {d : Deed} → d.locks ≡ [] → Free t d.changes → NotSlept d.answer → LockDeed m t pick r d
   first : {r : Request} {d : Deed} (n : Name) → owner_at m.monitors n ≡ None → d.locks ≡ Enters n ∷ [] → d.changes ≡ Owned n (owned t 1) ∷ [] → NotSlept d.answer → LockDeed m t pick r d
   again : {r : Request} {d : Deed} (n : Name) (o : MonitorState) → owner_at m.monitors n ≡ Some o → o.owner ≡ t → d.locks ≡ Enters n ∷ [] → d.changes ≡ Owned n (owned t (o.count + 1)) ∷ [] → NotSlept d.answer → LockDeed m t pick r d
   left : {r : Request} {d : Deed} (n : Name) (o : MonitorState) → owner_at m.monitors n ≡ Some o → o.owner ≡ t → d.locks ≡ Leaves n ∷ [] → d.changes ≡ released n o ∷ [] → NotSlept d.answer → LockDeed m t pick r d
@@ -79,9 +80,9 @@ either_deed m t pick r true x y l k = l
 either_deed m t pick r false x y l k = k
 
 -- makes touch no lock
-free_made : (os : List (Name × ObjectBody)) → Free (map (λ o. Made o.0 o.1) os)
-free_made [] = tt
-free_made (o ∷ os) = free_made os
+free_made : (t : ℕ) (os : List (Name × ObjectBody)) → Free t (map (λ o. Made o.0 o.1) os)
+free_made t [] = tt
+free_made t (o ∷ os) = free_made t os
 
 module _ (m : State) (t pick : ℕ) (r : Request) where
   lock_get : (n : Name) (i : ℕ) (o : Option ObjectBody) → LockIf m t pick r (get n i o)
@@ -106,7 +107,7 @@ module _ (m : State) (t pick : ℕ) (r : Request) where
   lock_load image name n i (Some (Text us)) = none m t pick r
   lock_load image name n i (Some (Array vs)) = some m t pick r _ (by_value (element_at i vs))
     where
-      by_value : (v : Option Value) → LockDeed m t pick r (from (faulted image name array_index []) (λ v. reading (ElementOf n (unsigned_abs i)) (One v) (Some v)) v)
+      by_value : (v : Option Value) → LockDeed m t pick r (from (faulted image name array_index) (λ v. reading (ElementOf n (unsigned_abs i)) (One v) (Some v)) v)
       by_value None = free refl tt tt
       by_value (Some v) = free refl tt tt
 
@@ -116,7 +117,7 @@ module _ (m : State) (t pick : ℕ) (r : Request) where
   lock_store image name n i v (Some (Text us)) = none m t pick r
   lock_store image name n i v (Some (Array vs)) = some m t pick r _ (by_value (element_at i vs))
     where
-      by_value : (o : Option Value) → LockDeed m t pick r (from (faulted image name array_index []) (λ old. if takes_value image n.class v then changing (SetsElement n (unsigned_abs i) v ∷ []) None else faulted image name array_store []) o)
+      by_value : (o : Option Value) → LockDeed m t pick r (from (faulted image name array_index) (λ old. if takes_value image n.class v then changing (SetsElement n (unsigned_abs i) v ∷ []) None else faulted image name array_store) o)
       by_value None = free refl tt tt
       by_value (Some w) = either_deed m t pick r (takes_value image n.class v) _ _ (free refl tt tt) (free refl tt tt)
 
@@ -166,8 +167,8 @@ module _ (m : State) (t pick : ℕ) (r : Request) where
   lock_fails image name c false = free refl tt tt
 
   lock_ends : (e : Option Name) → LockDeed m t pick r (ends t e)
-  lock_ends None = free refl tt tt
-  lock_ends (Some e) = free refl tt tt
+  lock_ends None = free refl (refl, tt) tt
+  lock_ends (Some e) = free refl (refl, tt) tt
 
 -- the begin of an initialisation
 lock_begins : (m : State) (t pick : ℕ) (r : Request) (u c : ℕ) (s : Option ClassState) → LockDeed m t pick r (changing (Becomes c (class_state.Running u) ∷ []) None) → LockIf m t pick r (begins u c s)
@@ -193,7 +194,7 @@ lock_served image t m c (Put n i v) = lock_put m t c.pick (Put n i v) n i v _
 lock_served image t m c (Load n i) = lock_load m t c.pick (Load n i) image c.name n i _
 lock_served image t m c (Store n i v) = lock_store m t c.pick (Store n i v) image c.name n i v _
 lock_served image t m c (Len n) = lock_len m t c.pick (Len n) _
-lock_served image t m c (Make k sizes) = some m t c.pick (Make k sizes) _ (free refl (free_made (made_objects image c.name k sizes)) tt)
+lock_served image t m c (Make k sizes) = some m t c.pick (Make k sizes) _ (free refl (free_made t (made_objects image c.name k sizes)) tt)
 lock_served image t m c (MakeText us) = some m t c.pick (MakeText us) _ (free refl tt tt)
 lock_served image t m c (Fault k) = some m t c.pick (Fault k) _ (free refl tt tt)
 lock_served image t m c (Enter n) = lock_enter m t c.pick (Enter n) n _ refl

@@ -14,7 +14,7 @@ use Rattle.program_image.specs.Buffers.{is_buffer}
 use Rattle.machine_state.specs.State.{State, Owners, owner_at, waiters_of}
 use Rattle.machine_state.specs.Events.{Place, FieldOf, ElementOf, ContentOf, Held, Content, Event, Reads, Writes, Locks, LockEvent, Enters, Leaves, Waits, Notifies, NotifiesAll, Told, told_by, onto, item_writes, body_writes, writes_of, writes}
 use Rattle.machine_state.specs.declared.request.Request.{Request}
-use Rattle.machine_state.specs.Changes.{Change, Made, SetsField, SetsElement, SetsContent, Owned, Freed, Sleeps, Moved, MovedAll, Becomes, Started, Lost, Printed, change, changed}
+use Rattle.machine_state.specs.Changes.{Change, Made, SetsField, SetsElement, SetsContent, Owned, Freed, Sleeps, Moved, MovedAll, Becomes, Started, Finished, Lost, Printed, change, changed}
 use Rattle.machine_state.specs.Deeds.{reads_of, Deed}
 use Rattle.machine_state.specs.Serve.{pick_fits}
 use Rattle.machine_state.specs.Locks.{owned, released}
@@ -95,21 +95,22 @@ legal_on by (Writes p h ∷ es) told n l = legal_on by es (record { thread = by;
 -- ---- changes that are of no lock
 
 -- changes that touch no lock keep the agreement
-free_agrees : (hs : List Change) (m : State) (st : ℕ → Name → Standing) → Free hs → LocksAgree m.monitors m.waiting st → LocksAgree (changed hs m).monitors (changed hs m).waiting st
-free_agrees [] m st f a = a
-free_agrees (Made n b ∷ hs) m st f a = free_agrees hs (change (Made n b) m) st f a
-free_agrees (SetsField n i v ∷ hs) m st f a = free_agrees hs (change (SetsField n i v) m) st f a
-free_agrees (SetsElement n i v ∷ hs) m st f a = free_agrees hs (change (SetsElement n i v) m) st f a
-free_agrees (SetsContent n us ∷ hs) m st f a = free_agrees hs (change (SetsContent n us) m) st f a
-free_agrees (Owned n o ∷ hs) m st f a = absurd f
-free_agrees (Freed n ∷ hs) m st f a = absurd f
-free_agrees (Sleeps n t ∷ hs) m st f a = absurd f
-free_agrees (Moved n t ∷ hs) m st f a = absurd f
-free_agrees (MovedAll n ∷ hs) m st f a = absurd f
-free_agrees (Becomes c s ∷ hs) m st f a = free_agrees hs (change (Becomes c s) m) st f a
-free_agrees (Started n ∷ hs) m st f a = free_agrees hs (change (Started n) m) st f a
-free_agrees (Lost u ∷ hs) m st f a = free_agrees hs (change (Lost u) m) st f a
-free_agrees (Printed us ∷ hs) m st f a = free_agrees hs (change (Printed us) m) st f a
+free_agrees : (t : ℕ) (hs : List Change) (m : State) (st : ℕ → Name → Standing) → Free t hs → LocksAgree m.monitors m.waiting st → LocksAgree (changed hs m).monitors (changed hs m).waiting st
+free_agrees t [] m st f a = a
+free_agrees t (Made n b ∷ hs) m st f a = free_agrees t hs (change (Made n b) m) st f a
+free_agrees t (SetsField n i v ∷ hs) m st f a = free_agrees t hs (change (SetsField n i v) m) st f a
+free_agrees t (SetsElement n i v ∷ hs) m st f a = free_agrees t hs (change (SetsElement n i v) m) st f a
+free_agrees t (SetsContent n us ∷ hs) m st f a = free_agrees t hs (change (SetsContent n us) m) st f a
+free_agrees t (Owned n o ∷ hs) m st f a = absurd f
+free_agrees t (Freed n ∷ hs) m st f a = absurd f
+free_agrees t (Sleeps n u ∷ hs) m st f a = absurd f
+free_agrees t (Moved n u ∷ hs) m st f a = absurd f
+free_agrees t (MovedAll n ∷ hs) m st f a = absurd f
+free_agrees t (Becomes c s ∷ hs) m st f a = free_agrees t hs (change (Becomes c s) m) st f a
+free_agrees t (Started n ∷ hs) m st f a = free_agrees t hs (change (Started n) m) st f a
+free_agrees t (Finished u ∷ hs) m st f a = free_agrees t hs (change (Finished u) m) st f.1 a
+free_agrees t (Lost u ∷ hs) m st f a = free_agrees t hs (change (Lost u) m) st f a
+free_agrees t (Printed us ∷ hs) m st f a = free_agrees t hs (change (Printed us) m) st f a
 
 -- ---- what a deed does to the standings: no event of a lock, or one that is allowed
 
@@ -236,7 +237,7 @@ picked pick (w ∷ ws) ne e = e
 -- every deed
 pub deed_effect : (m l : State) (t pick : ℕ) (r : Request) (d : Deed) (st : ℕ → Name → Standing) → l.monitors ≡ m.monitors → l.waiting ≡ m.waiting → pick_fits pick d.waiters ≡ true → LocksAgree m.monitors m.waiting st → LockDeed m t pick r d
     → Effect t st d.locks (changed d.changes l).monitors (changed d.changes l).waiting
-deed_effect m l t pick r d st p q w a0 (free f g s) = no_event f (free_agrees d.changes l st g a)
+deed_effect m l t pick r d st p q w a0 (free f g s) = no_event f (free_agrees t d.changes l st g a)
   where
     a : LocksAgree l.monitors l.waiting st
     a = subst (λ (x : List Waiter). LocksAgree l.monitors x st) (sym q) (subst (λ (x : Owners). LocksAgree x m.waiting st) (sym p) a0)

@@ -135,7 +135,7 @@ mode_after image r (Gives v) mode ls w s = by_request r
     after (l ∷ ls) = tt
 
     by_request : (r : Request) → NotWaiting (given image r v mode ls).0
-    by_request (Finish e) = tt
+    by_request (Finish e) = w
     by_request (InitDone k) = after (below_init ls)
     by_request (Begin k) = tt
     by_request (Wait n) = tt

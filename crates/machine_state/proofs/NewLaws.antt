@@ -141,7 +141,7 @@ module _ (image : Program) (name : Name) where
   made_load n i (Some (Text us)) = (empty name)
   made_load n i (Some (Array vs)) = some name _ (by_value (element_at i vs))
     where
-      by_value : (v : Option Value) → Fine name (from (faulted image name array_index []) (λ v. reading (ElementOf n (unsigned_abs i)) (One v) (Some v)) v)
+      by_value : (v : Option Value) → Fine name (from (faulted image name array_index) (λ v. reading (ElementOf n (unsigned_abs i)) (One v) (Some v)) v)
       by_value None = (one name 15, tt)
       by_value (Some v) = tt
 
@@ -151,7 +151,7 @@ module _ (image : Program) (name : Name) where
   made_store n i v (Some (Text us)) = (empty name)
   made_store n i v (Some (Array vs)) = some name _ (by_value (element_at i vs))
     where
-      by_value : (o : Option Value) → Fine name (from (faulted image name array_index []) (λ old. if takes_value image n.class v then changing (SetsElement n (unsigned_abs i) v ∷ []) None else faulted image name array_store []) o)
+      by_value : (o : Option Value) → Fine name (from (faulted image name array_index) (λ old. if takes_value image n.class v then changing (SetsElement n (unsigned_abs i) v ∷ []) None else faulted image name array_store) o)
       by_value None = (one name 15, tt)
       by_value (Some w) = either_deed name (takes_value image n.class v) _ _ tt (one name 18, tt)
 

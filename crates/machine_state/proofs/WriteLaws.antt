@@ -11,7 +11,7 @@ use Rattle.program_image.specs.Buffers.{is_buffer}
 use Rattle.jvm_base.proofs.NameLaws.{name_eq-true}
 use Rattle.machine_state.specs.State.{State, Heap}
 use Rattle.machine_state.specs.Events.{Place, FieldOf, ElementOf, ContentOf, Held, One, Content, one_held, place_name, part_in, held_at, Event, Reads, Writes, Locks, LockEvent, Told, told_by, onto, item_writes, body_writes, writes_of, writes}
-use Rattle.machine_state.specs.Changes.{with_field, with_element, with_content, altered, Change, Made, SetsField, SetsElement, SetsContent, Owned, Freed, Sleeps, Moved, MovedAll, Becomes, Started, Lost, Printed, change, changed}
+use Rattle.machine_state.specs.Changes.{with_field, with_element, with_content, altered, Change, Made, SetsField, SetsElement, SetsContent, Owned, Freed, Sleeps, Moved, MovedAll, Becomes, Started, Finished, Lost, Printed, change, changed}
 use Rattle.machine_state.specs.Deeds.{reads_of, Deed, events_of}
 use Rattle.machine_state.specs.Accesses.{place_eq, after_event, last_write, LastWrite}
 use Rattle.machine_state.specs.Laws.Locality.{AllHeld}
@@ -77,6 +77,7 @@ no_read-change (Moved n t) = tt
 no_read-change (MovedAll n) = tt
 no_read-change (Becomes c s) = tt
 no_read-change (Started n) = tt
+no_read-change (Finished t) = tt
 no_read-change (Lost u) = tt
 no_read-change (Printed us) = tt
 
@@ -203,6 +204,7 @@ agrees-change t (Moved n u) m told a = a
 agrees-change t (MovedAll n) m told a = a
 agrees-change t (Becomes c s) m told a = a
 agrees-change t (Started n) m told a = a
+agrees-change t (Finished u) m told a = a
 agrees-change t (Lost u) m told a = a
 agrees-change t (Printed us) m told a = a
 

@@ -44,7 +44,7 @@ element_at i vs = if int_lt i (pos 0) then None else slice_get vs (unsigned_abs 
 -- an element is read; an index out of range raises
 abbrev pub load : Program → Name → Name → ℤ → Option ObjectBody → Option Deed
 load p name n i (Some (Array vs)) =
-    Some (from (faulted p name array_index [])
+    Some (from (faulted p name array_index)
     (λ v. reading (ElementOf n (unsigned_abs i)) (One v) (Some v))
     (element_at i vs))
 load p name n i _ = None
@@ -58,9 +58,9 @@ takes_value p c _ = true
 -- an element is written; an index out of range raises, then a value that the array doesn't take
 abbrev pub store : Program → Name → Name → ℤ → Value → Option ObjectBody → Option Deed
 store p name n i v (Some (Array vs)) =
-    Some (from (faulted p name array_index [])
+    Some (from (faulted p name array_index)
     (λ old. if takes_value p n.class v then changing (SetsElement n (unsigned_abs i) v ∷ []) None
-    else faulted p name array_store [])
+    else faulted p name array_store)
     (element_at i vs))
 store p name n i v _ = None
 

@@ -1,5 +1,5 @@
 -- The changes that a step makes to what threads share.
-use Rattle.std.specs.Prelude.{ℕ, ◌==◌, ◌&&◌, not, List, [], ◌∷◌, ◌++◌, slice_set, filter}
+use Rattle.std.specs.Prelude.{ℕ, ◌==◌, ◌&&◌, not, List, [], ◌∷◌, ◌++◌, slice_get, slice_set, filter}
 use Rattle.std.specs.FinMap.Entries.{where_key}
 use Rattle.jvm_base.specs.Maps.{put, replace}
 use Rattle.jvm_base.specs.Names.{name_cmp, name_eq}
@@ -10,7 +10,7 @@ use Rattle.jvm_base.specs.declared.value.ObjectBody.{ObjectBody}
 use Rattle.jvm_base.specs.declared.value.ObjectBody.TheVariants.{Fields, Array, Text}
 use Rattle.jvm_base.specs.declared.value.Uncaught.{Uncaught}
 use Rattle.machine_state.specs.declared.state.ThreadState.{ThreadState}
-use Rattle.machine_state.specs.declared.state.Mode.TheVariants.{Entry}
+use Rattle.machine_state.specs.declared.state.Mode.TheVariants.{Entry, Ended}
 use Rattle.machine_state.specs.declared.state.MonitorState.{MonitorState}
 use Rattle.machine_state.specs.declared.state.Waiter.{Waiter}
 use Rattle.machine_state.specs.declared.state.ClassState.{ClassState}
@@ -41,7 +41,7 @@ altered heap n f = from heap (λ b. replace name_cmp n (f b) heap) (body_at heap
 
 -- An object is made; one of its places takes a value; a lock is owned, or free; a thread falls
 -- asleep on a lock, one that slept there may retake it, or all may; a class is in a state; a thread
--- is started on an object; an exception isn't caught; bytes are written.
+-- is started on an object, or has finished; an exception isn't caught; bytes are written.
 pub data Change : Type 0 where
   Made : Name → ObjectBody → Change
   SetsField : Name → ℕ → Value → Change
@@ -54,12 +54,21 @@ pub data Change : Type 0 where
   MovedAll : Name → Change
   Becomes : ℕ → ClassState → Change
   Started : Name → Change
+  Finished : ℕ → Change
   Lost : Uncaught → Change
   Printed : List ℕ → Change
 
 -- a thread before its first step
 abbrev pub new_thread : Name → ThreadState
 new_thread object = record { object = object; mode = Entry; levels = []; steps = 0 }
+
+-- a thread after its last step
+abbrev pub ended : ThreadState → ThreadState
+ended th = record th { mode = Ended }
+
+-- the thread of a number, if it is there, has ended
+abbrev pub with_ended : ℕ → List ThreadState → List ThreadState
+with_ended t ths = from ths (λ th. slice_set ths t (ended th)) (slice_get ths t)
 
 -- a thread that sleeps on a lock
 abbrev pub waiter : Name → ℕ → Waiter
@@ -90,6 +99,7 @@ change (Moved n t) m = record m { waiting = without_waiter n t m.waiting }
 change (MovedAll n) m = record m { waiting = without_waiters n m.waiting }
 change (Becomes c s) m = record m { classes = slice_set m.classes c s }
 change (Started object) m = record m { threads = m.threads ++ new_thread object ∷ [] }
+change (Finished t) m = record m { threads = with_ended t m.threads }
 change (Lost u) m = record m { uncaught = m.uncaught ++ u ∷ [] }
 change (Printed bytes) m = record m { output = m.output ++ bytes }
 

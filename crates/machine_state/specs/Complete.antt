@@ -14,7 +14,7 @@ use Rattle.program_image.specs.Program.{Program}
 use Rattle.program_image.specs.Words.{instruction_at}
 use Rattle.frame_ops.specs.Operands.{returned}
 use Rattle.machine_state.specs.declared.state.Mode.{Mode}
-use Rattle.machine_state.specs.declared.state.Mode.TheVariants.{Entry, Running, Raising, Waiting, Ended}
+use Rattle.machine_state.specs.declared.state.Mode.TheVariants.{Entry, Running, Raising, Waiting}
 use Rattle.machine_state.specs.declared.request.Request.{Request}
 use Rattle.machine_state.specs.declared.request.Request.TheVariants.{Enter, Exit, Wait, Begin, InitDone, InitFail, Finish}
 use Rattle.machine_state.specs.declared.request.Answer.{Answer}
@@ -82,7 +82,7 @@ given p (Exit n false) v mode ls = (mode, left p ls)
 given p (Begin c) v mode ls = (Running, Init c false ∷ ls)
 given p (InitDone c) v mode ls = (after_init (below_init ls), below_init ls)
 given p (InitFail c made) v mode ls = (mode, below_init ls)
-given p (Finish e) v mode ls = (Ended, ls)
+given p (Finish e) v mode ls = (mode, ls)
 given p (Wait n) v mode ls = (Running, answer_top p v ls)
 given p r v mode ls = (mode, answer_top p v ls)
 

@@ -47,20 +47,24 @@ reading p h v = record (quiet v) { reads = (p, h) ∷ [] }
 abbrev pub changing : List Change → Option Value → Deed
 changing cs v = record (quiet v) { changes = cs }
 
+-- and further, by one change
+abbrev pub with_change : Change → Deed → Deed
+with_change c d = record d { changes = d.changes ++ c ∷ [] }
+
 -- something is done with a lock
 abbrev pub locking : LockEvent → List Change → Deed
 locking e cs =
     record
     { makes = []; waiters = []; reads = []; locks = e ∷ []; changes = cs; answer = Gives None }
 
--- an exception of a class is made and raised, before further changes
-abbrev pub faulted : Program → Name → ℕ → List Change → Deed
-faulted p name c more = record {
+-- an exception of a class is made and raised
+abbrev pub faulted : Program → Name → ℕ → Deed
+faulted p name c = record {
   makes = c ∷ [];
   waiters = [];
   reads = [];
   locks = [];
-  changes = Made name (Fields (zeros_of p c)) ∷ more;
+  changes = Made name (Fields (zeros_of p c)) ∷ [];
   answer = Raises name;
 }
 

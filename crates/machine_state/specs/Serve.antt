@@ -15,8 +15,8 @@ use Rattle.machine_state.specs.State.{Heap, body_at}
 use Rattle.machine_state.specs.declared.request.Request.{Request}
 use Rattle.machine_state.specs.declared.request.Request.TheVariants.{Get, Put, Load, Store, Len, Make, MakeText, Fault, Enter, Exit, Wait, Notify, NotifyAll, Begin, InitDone, InitFail, Start, Join, Finish, Buffer, Print}
 use Rattle.machine_state.specs.Requests.{Cell, NoCell, Body, Lock, Class, Threads, Console}
-use Rattle.machine_state.specs.Changes.{Becomes, Started, Lost, Printed}
-use Rattle.machine_state.specs.Deeds.{Deed, quiet, changing, faulted, making_text}
+use Rattle.machine_state.specs.Changes.{Becomes, Started, Finished, Lost, Printed}
+use Rattle.machine_state.specs.Deeds.{Deed, quiet, changing, with_change, faulted, making_text}
 use Rattle.machine_state.specs.Making.{made_objects, making}
 use Rattle.machine_state.specs.Bodies.{get, put, load, store, len, buffer}
 use Rattle.machine_state.specs.Locks.{enter, by_owner, leaves, sleeps, notifies, notifies_all}
@@ -34,10 +34,14 @@ abbrev pub by_runner : ℕ → Option ClassState → Deed → Option Deed
 by_runner t (Some (class_state.Running u)) d = if u == t then Some d else None
 by_runner t s d = None
 
--- an initialisation fails, with a new exception in place of one that is no Error
+-- where its initialisation fails, a thread raises a new exception in place of one that is no Error
+abbrev pub failing : Program → Name → Bool → Deed
+failing p name true = faulted p name initializer_error
+failing p name false = quiet None
+
+-- and the class has failed
 abbrev pub fails : Program → Name → ℕ → Bool → Deed
-fails p name c true = faulted p name initializer_error (Becomes c class_state.Failed ∷ [])
-fails p name c false = changing (Becomes c class_state.Failed ∷ []) None
+fails p name c made = with_change (Becomes c class_state.Failed) (failing p name made)
 
 -- ---- threads
 
@@ -48,7 +52,7 @@ thread_of n ts = from None (λ t. Some t.1) (find (λ t. name_eq t.0 n) ts)
 -- a Thread object is started once
 abbrev pub starts : Program → Name → Name → Option Bool → Deed
 starts p name n None = changing (Started n ∷ []) None
-starts p name n (Some b) = faulted p name thread_state []
+starts p name n (Some b) = faulted p name thread_state
 
 -- a thread is waited for until it has ended; one that was never started isn't
 abbrev pub joins : Option Bool → Option Deed
@@ -57,8 +61,9 @@ joins _ = Some (quiet None)
 
 -- a thread ends, with the exception that it raised, if any
 abbrev pub ends : ℕ → Option Name → Deed
-ends t None = quiet None
-ends t (Some e) = changing (Lost (record { thread = t; class = e.class }) ∷ []) None
+ends t None = changing (Finished t ∷ []) None
+ends t (Some e) =
+    changing (Lost (record { thread = t; class = e.class }) ∷ Finished t ∷ []) None
 
 -- ---- output: a unit's bytes are those of modified UTF-8, but unit 0 is one zero byte
 
@@ -81,17 +86,16 @@ serve p t c (Store n i v) (Body b) = store p c.name n i v b
 serve p t c (Len n) (Body b) = len b
 serve p t c (Make k sizes) NoCell = Some (making c.name (made_objects p c.name k sizes))
 serve p t c (MakeText us) NoCell = Some (making_text c.name [] us)
-serve p t c (Fault k) NoCell = Some (faulted p c.name k [])
+serve p t c (Fault k) NoCell = Some (faulted p c.name k)
 serve p t c (Enter n) (Lock o ws) = enter t n o
 serve p t c (Exit n raising) (Lock o ws) =
-    Some
-    (by_owner t o (if raising then quiet None else faulted p c.name monitor_state []) (leaves n))
+    Some (by_owner t o (if raising then quiet None else faulted p c.name monitor_state) (leaves n))
 serve p t c (Wait n) (Lock o ws) =
-    Some (by_owner t o (faulted p c.name monitor_state []) (sleeps t n))
+    Some (by_owner t o (faulted p c.name monitor_state) (sleeps t n))
 serve p t c (Notify n) (Lock o ws) =
-    Some (by_owner t o (faulted p c.name monitor_state []) (λ o. notifies n c.pick ws))
+    Some (by_owner t o (faulted p c.name monitor_state) (λ o. notifies n c.pick ws))
 serve p t c (NotifyAll n) (Lock o ws) =
-    Some (by_owner t o (faulted p c.name monitor_state []) (λ o. notifies_all n))
+    Some (by_owner t o (faulted p c.name monitor_state) (λ o. notifies_all n))
 serve p t c (Begin k) (Class s) = begins t k s
 serve p t c (InitDone k) (Class s) = by_runner t s (changing (Becomes k class_state.Done ∷ []) None)
 serve p t c (InitFail k made) (Class s) = by_runner t s (fails p c.name k made)

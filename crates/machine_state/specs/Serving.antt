@@ -13,7 +13,7 @@ use Rattle.machine_state.specs.declared.served.Served.{Served}
 use Rattle.machine_state.specs.declared.served.Wish.{Wish}
 use Rattle.machine_state.specs.declared.served.Wish.TheVariants as wish
 use Rattle.machine_state.specs.declared.state.Choice.{Choice}
-use Rattle.machine_state.specs.Changes.{Change, Made, SetsField, SetsElement, SetsContent, Owned, Freed, Sleeps, Moved, MovedAll, Becomes, Started, Lost, Printed}
+use Rattle.machine_state.specs.Changes.{Change, Made, SetsField, SetsElement, SetsContent, Owned, Freed, Sleeps, Moved, MovedAll, Becomes, Started, Finished, Lost, Printed}
 use Rattle.machine_state.specs.Deeds.{Deed}
 use Rattle.machine_state.specs.Serve.{pick_fits, name_fits}
 use Rattle.machine_state.specs.State.{State, Heap, body_at}
@@ -43,6 +43,7 @@ change_of heap (effect.Moved n t) = Moved n t
 change_of heap (effect.MovedAll n) = MovedAll n
 change_of heap (effect.Becomes c s) = Becomes c s
 change_of heap (effect.Started n) = Started n
+change_of heap (effect.Finished t) = Finished t
 change_of heap (effect.Lost u) = Lost u
 change_of heap (effect.Printed bytes) = Printed bytes
 

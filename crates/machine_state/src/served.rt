@@ -7,7 +7,7 @@ use jvm_base::{List, Name, ObjectBody, Uncaught, Units, Value};
 /// A change to what threads share: an object is made; a field or an element takes a value; units are
 /// put behind the content of a buffer; a lock is owned, or free; a thread falls asleep on a lock; one
 /// that slept there may retake it, or all may; a class is in a state; a thread is started on an
-/// object; an exception isn't caught; bytes are written.
+/// object, or has finished; an exception isn't caught; bytes are written.
 #[derive(Drop)]
 pub enum Effect {
     Made(Name, ObjectBody),
@@ -21,6 +21,7 @@ pub enum Effect {
     MovedAll(Name),
     Becomes(u32, ClassState),
     Started(Name),
+    Finished(u32),
     Lost(Uncaught),
     Printed(List<u8>),
 }

@@ -6,10 +6,11 @@ use Rattle.std.specs.List.{list_any}
 use Rattle.std.specs.Prelude.{nat_le, slice_set}
 use Rattle.jvm_base.specs.Maps.{put}
 use Rattle.jvm_base.specs.Names.{name_cmp}
-use Rattle.machine_state.specs.Changes.{Change, Made, SetsField, SetsElement, SetsContent, Owned, Freed, Sleeps, Moved, MovedAll, Becomes, Started, Lost, Printed, change, changed, new_thread}
+use Rattle.machine_state.specs.Changes.{Change, Made, SetsField, SetsElement, SetsContent, Owned, Freed, Sleeps, Moved, MovedAll, Becomes, Started, Finished, Lost, Printed, change, changed, new_thread}
 use Rattle.machine_state.specs.declared.state.ThreadState.{ThreadState}
 use Rattle.machine_state.specs.State.{State, Heap}
 use Rattle.machine_state.specs.Step.{Taken, after, moved_on}
+use Rattle.machine_state.proofs.Endings.{ended_length}
 use Rattle.shared_state.specs.Orderly.{AreNew, ArePair, IsOrderly}
 use Rattle.one_machine.specs.Going.{StayFew, is_full, is_start}
 
@@ -26,6 +27,7 @@ unstarted_one (Sleeps n u) m e = refl
 unstarted_one (Moved n u) m e = refl
 unstarted_one (MovedAll n) m e = refl
 unstarted_one (Becomes k s) m e = refl
+unstarted_one (Finished t) m e = ended_length m.threads t
 unstarted_one (Lost u) m e = refl
 unstarted_one (Printed bytes) m e = refl
 
@@ -67,6 +69,7 @@ new_unstarted heap (Sleeps n u ∷ cs) h = absurd h
 new_unstarted heap (Moved n u ∷ cs) h = absurd h
 new_unstarted heap (MovedAll n ∷ cs) h = absurd h
 new_unstarted heap (Becomes k s ∷ cs) h = absurd h
+new_unstarted heap (Finished t ∷ cs) h = absurd h
 new_unstarted heap (Lost u ∷ cs) h = absurd h
 new_unstarted heap (Printed bytes ∷ cs) h = absurd h
 

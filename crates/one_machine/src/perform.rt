@@ -1,18 +1,18 @@
 //! A step, done whole or not at all.
 
 ghost use Rattle.std.specs.Prelude.{◌≡◌, ◌+◌, ◌<◌, length, map, filter, reverse, slice_get, vec_len, vec_capacity, Some, IsErr, IfOk, OnOk, OnErr};
-ghost use Rattle.machine_state.specs.Changes.{changed};
+ghost use Rattle.machine_state.specs.Changes.{changed, with_ended};
 ghost use Rattle.machine_state.specs.Serving.{changes_of, effect_list};
 ghost use Rattle.machine_state.specs.Step.{after as stepped};
 ghost use Rattle.program_reads.specs.Whole.{IsWhole};
-ghost use Rattle.shared_state.specs.Orderly.{IsOrderly};
+ghost use Rattle.shared_state.specs.Orderly.{IsOrderly, after_end, ended_in, lasting};
 ghost use Rattle.shared_state.specs.Parts.{state_of, thread_state};
 ghost use Rattle.shared_state.specs.declared.thread.Thread.{Thread as Running};
 ghost use Rattle.step_after.specs.Going.{stand_of, CanGoOn};
 ghost use Rattle.one_machine.specs.Doing.{is_made, IsNextState, IsPrepared};
 
 use jvm_base::NoMemory;
-use machine_state::{Answer, Effect, Effects};
+use machine_state::{Answer, Effect, Effects, Mode};
 use program_image::Image;
 use shared_state::{Shared, Thread};
 use std::alloc::Global;
@@ -77,37 +77,61 @@ fn finish(image: &Image, thread: &mut Thread, after: After, answer: Answer, step
     thread.steps = steps;
 }
 
+/// A thread has ended, if it is there.
+fn end_thread(threads: &mut Vec<Thread>, thread: u32)
+    ensures { map thread_state threads.new.items
+        ≡ with_ended thread (map thread_state threads.old.items) }
+{
+    if (thread as usize) < threads.len() {
+        threads[thread as usize].mode = Mode::Ended;
+    }
+}
+
+/// A thread has ended, if one does by a step.
+fn end(threads: &mut Vec<Thread>, ended: Option<u32>)
+    ensures { map thread_state threads.new.items
+        ≡ after_end ended (map thread_state threads.old.items) }
+{
+    if let Some(thread) = ended {
+        end_thread(threads, thread);
+    }
+}
+
 /// There is want of memory, and the effects aren't done.
-fn give_up(_effects: Effects) -> Result<u64, NoMemory>
+fn give_up(_effects: Effects) -> Result<(u64, Option<u32>), NoMemory>
     ensures { IsErr result }
 {
     Err(NoMemory)
 }
 
-/// Makes a thread ready for a step more and does the effects, or nothing.
+/// Makes a thread ready for a step more and does the effects, or nothing. It answers how many steps the
+/// thread has then, and which thread is still to end.
 fn change(
     alloc: Global,
     shared: &mut Shared,
     threads: &mut Vec<Thread>,
     at: usize,
     effects: Effects,
-) -> Result<u64, NoMemory>
+) -> Result<(u64, Option<u32>), NoMemory>
     requires there { at < length threads.old.items }
     requires orderly { IsOrderly shared.old.heap (changes_of shared.old.heap effects) }
     ensures ok { OnOk result (state_of shared.new threads.new.items
-        ≡ changed (changes_of shared.old.heap effects) (state_of shared.old threads.old.items)) }
-    ensures ready { IfOk result (λ steps. IsPrepared at steps threads.old.items threads.new.items) }
+        ≡ changed (lasting (changes_of shared.old.heap effects))
+        (state_of shared.old threads.old.items)) }
+    ensures ready { IfOk result (λ r. IsPrepared at r.0 threads.old.items threads.new.items) }
+    ensures ended { IfOk result (λ r. r.1 ≡ ended_in (changes_of shared.old.heap effects)) }
     ensures err { OnErr result (state_of shared.new threads.new.items
         ≡ state_of shared.old threads.old.items) }
 {
     let Ok(steps) = make_ready(&mut threads[at]) else {
         return give_up(effects);
     };
-    shared.apply(alloc, threads, effects)?;
-    Ok(steps)
+    let ended = shared.apply(alloc, threads, effects)?;
+    Ok((steps, ended))
 }
 
-/// Does a step of a thread: its changes, and the thread goes on. Nothing is done where memory runs out.
+/// Does a step of a thread: its changes, the thread goes on, and it ends if that is among the changes.
+/// Nothing is done where memory runs out.
 pub(crate) fn perform(
     alloc: Global,
     image: &Image,
@@ -128,7 +152,8 @@ pub(crate) fn perform(
 {
     let Going { served, after } = going;
     let answer = served.answer;
-    let steps = change(alloc, shared, threads, at, served.effects)?;
+    let (steps, ended) = change(alloc, shared, threads, at, served.effects)?;
     finish(image, &mut threads[at], after, answer, steps);
+    end(threads, ended);
     Ok(())
 }

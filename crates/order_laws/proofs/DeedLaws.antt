@@ -75,7 +75,7 @@ module _ (p : Program) (whole : IsWhole p) where
   load_within name n i (Some (Text us)) = tt
   load_within name n i (Some (Array vs)) = by_element (element_at i vs)
     where
-      by_element : (o : Option Value) → FirstWithin p (from (faulted p name array_index []) (λ v. reading (ElementOf n (unsigned_abs i)) (One v) (Some v)) o).makes
+      by_element : (o : Option Value) → FirstWithin p (from (faulted p name array_index) (λ v. reading (ElementOf n (unsigned_abs i)) (One v) (Some v)) o).makes
       by_element None = boot_within p whole 15 (omega arith)
       by_element (Some v) = tt
 
@@ -85,9 +85,9 @@ module _ (p : Program) (whole : IsWhole p) where
   store_within name n i v (Some (Text us)) = tt
   store_within name n i v (Some (Array vs)) = by_element (element_at i vs)
     where
-      by_element : (o : Option Value) → FirstWithin p (from (faulted p name array_index []) (λ old. if takes_value p n.class v then changing (SetsElement n (unsigned_abs i) v ∷ []) None else faulted p name array_store []) o).makes
+      by_element : (o : Option Value) → FirstWithin p (from (faulted p name array_index) (λ old. if takes_value p n.class v then changing (SetsElement n (unsigned_abs i) v ∷ []) None else faulted p name array_store) o).makes
       by_element None = boot_within p whole 15 (omega arith)
-      by_element (Some old) = either_deed (takes_value p n.class v) (changing (SetsElement n (unsigned_abs i) v ∷ []) None) (faulted p name array_store []) tt (boot_within p whole 18 (omega arith))
+      by_element (Some old) = either_deed (takes_value p n.class v) (changing (SetsElement n (unsigned_abs i) v ∷ []) None) (faulted p name array_store) tt (boot_within p whole 18 (omega arith))
 
   len_within : (o : Option ObjectBody) → MakesWithin p (len o)
   len_within None = tt

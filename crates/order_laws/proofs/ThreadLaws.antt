@@ -14,7 +14,7 @@ use Rattle.machine_state.specs.declared.request.Request.{Request}
 use Rattle.machine_state.specs.declared.request.Request.TheVariants.{Start, Join, Finish}
 use Rattle.machine_state.specs.declared.state.Choice.{Choice}
 use Rattle.machine_state.specs.declared.state.ThreadState.{ThreadState}
-use Rattle.machine_state.specs.Changes.{Change, Started, change, changed, new_thread}
+use Rattle.machine_state.specs.Changes.{Change, Started, Finished, change, changed, new_thread}
 use Rattle.machine_state.specs.Complete.{Stand}
 use Rattle.machine_state.specs.Deeds.{Deed}
 use Rattle.machine_state.specs.Laws.Locality.{AreAt}
@@ -24,6 +24,7 @@ use Rattle.machine_state.specs.Serve.{serve, starts, joins, ends, thread_of}
 use Rattle.machine_state.specs.Start.{start}
 use Rattle.machine_state.specs.State.{State, is_ended}
 use Rattle.machine_state.specs.Step.{Taken, after, moved_on, taken_by, step_of, step}
+use Rattle.machine_state.proofs.Endings.{ended_maps}
 use Rattle.machine_state.proofs.LocalLaws.{local_served, local_retakes}
 use Rattle.machine_state.proofs.NameTests.{names_total, name_itself, some_is}
 use Rattle.machine_state.proofs.Sources.{Source, idle, asks, wakes, of_taken}
@@ -53,6 +54,9 @@ more_apart ths n a e = subst (λ ns. IsDistinct name_eq ns) (sym (map-append (λ
 changed_apart : (hs : List Change) (m : State) → AreApart m.threads → StartNew (objects m.threads) hs → AreApart (changed hs m).threads
 changed_apart [] m a s = a
 changed_apart (Started n ∷ hs) m a s = changed_apart hs (change (Started n) m) (more_apart m.threads n a s.0) (subst (λ ns. StartNew ns hs) (sym (map-append (λ (th : ThreadState). th.object) m.threads (new_thread n ∷ []))) s.1)
+changed_apart (Finished t ∷ hs) m a s =
+    let same = ended_maps (λ (th : ThreadState). th.object) (λ th. refl) m.threads t in
+    changed_apart hs (change (Finished t) m) (subst (λ ns. IsDistinct name_eq ns) (sym same) a) (subst (λ ns. StartNew ns hs) (sym same) s)
 changed_apart (h ∷ hs) m a s = changed_apart hs (change h m) a s
 
 -- ---- what is served

@@ -7,7 +7,7 @@ use Rattle.jvm_base.specs.Words.{from}
 use Rattle.program_image.specs.Program.{Program}
 use Rattle.machine_state.specs.declared.state.Choice.{Choice}
 use Rattle.machine_state.specs.declared.state.ThreadState.{ThreadState}
-use Rattle.machine_state.specs.Changes.{Change, Made, SetsField, SetsElement, SetsContent, Owned, Freed, Sleeps, Moved, MovedAll, Becomes, Started, Lost, Printed, change, changed}
+use Rattle.machine_state.specs.Changes.{Change, Made, SetsField, SetsElement, SetsContent, Owned, Freed, Sleeps, Moved, MovedAll, Becomes, Started, Finished, Lost, Printed, change, changed}
 use Rattle.machine_state.specs.Runs.{run}
 use Rattle.machine_state.specs.Start.{start}
 use Rattle.machine_state.specs.State.{State}
@@ -41,6 +41,7 @@ change_grows (Moved n t) m = same m (change (Moved n t) m) refl
 change_grows (MovedAll n) m = same m (change (MovedAll n) m) refl
 change_grows (Becomes c s) m = same m (change (Becomes c s) m) refl
 change_grows (Started n) m = same m (change (Started n) m) refl
+change_grows (Finished t) m = same m (change (Finished t) m) refl
 change_grows (Lost u) m = same m (change (Lost u) m) refl
 
 -- twice

@@ -10,7 +10,7 @@ use Rattle.machine_state.specs.declared.state.Choice.{Choice}
 use Rattle.machine_state.specs.declared.state.Mode.{Mode}
 use Rattle.machine_state.specs.declared.state.Mode.TheVariants.{Entry, Running, Raising, Waiting, Ended}
 use Rattle.machine_state.specs.declared.state.ThreadState.{ThreadState}
-use Rattle.machine_state.specs.Changes.{Change, Made, SetsField, SetsElement, SetsContent, Owned, Freed, Sleeps, Moved, MovedAll, Becomes, Started, Lost, Printed, change, changed, new_thread}
+use Rattle.machine_state.specs.Changes.{Change, Made, SetsField, SetsElement, SetsContent, Owned, Freed, Sleeps, Moved, MovedAll, Becomes, Started, Finished, Lost, Printed, change, changed, ended, new_thread}
 use Rattle.machine_state.specs.State.{State, is_ended}
 use Rattle.machine_state.specs.Step.{Taken, after, attempt, by_mode, moved_on, step, step_of, taken_by}
 use Rattle.machine_state.proofs.NameTests.{some_is}
@@ -48,6 +48,21 @@ change_within limit (Started n) m w =
         → th.steps ≤ limit
     by_case t th (inl e) = let s : th.steps ≡ 0 = ap (λ (x : ThreadState). x.steps) e in omega arith
     by_case t th (inr e) = w t th e
+change_within limit (Finished x) m w = λ t th e. by_thread t th (slice_get m.threads x) refl e
+  where
+    by_case : (t : ℕ) (th own : ThreadState) → slice_get m.threads x ≡ Some own
+        → (th ≡ ended own) ⊎ (slice_get m.threads t ≡ Some th) → th.steps ≤ limit
+    by_case t th own f (inl e) =
+        let s : th.steps ≡ own.steps = ap (λ (y : ThreadState). y.steps) e in
+        let few : own.steps ≤ limit = w x own f in
+        omega arith
+    by_case t th own f (inr e) = w t th e
+
+    by_thread : (t : ℕ) (th : ThreadState) (o : Option ThreadState) → slice_get m.threads x ≡ o
+        → slice_get (from m.threads (λ y. slice_set m.threads x (ended y)) o) t ≡ Some th
+        → th.steps ≤ limit
+    by_thread t th None f e = w t th e
+    by_thread t th (Some own) f e = by_case t th own f (set_cases m.threads x t (ended own) th e)
 change_within limit (Made n b) m w = w
 change_within limit (SetsField n i v) m w = w
 change_within limit (SetsElement n i v) m w = w

@@ -1,11 +1,11 @@
 -- Objects that are made one after the other.
-use Rattle.std.proofs.Common.{◌≡◌, ◌∙◌, sym, refl, ap, subst, ℕ, zero, suc, ◌+◌, ◌<◌, ◌≤◌, List, [], ◌∷◌, ◌++◌, take, drop, length, Some, arith, length-append, map}
+use Rattle.std.proofs.Common.{◌≡◌, ◌∙◌, sym, refl, ap, subst, ℕ, zero, suc, ◌+◌, ◌<◌, ◌≤◌, List, [], ◌∷◌, ◌++◌, take, drop, length, Some, None, arith, length-append, map}
 use Rattle.std.specs.Prelude.{slice_get, slice_set}
 use Rattle.machine_state.specs.declared.served.Effect.{Effect}
 use Rattle.machine_state.specs.declared.served.Effect.TheVariants as effect
 use Rattle.machine_state.specs.State.{Heap}
 use Rattle.shared_state.specs.Making.{with_made, all_made, AllNew, mark_of, unmade, all_unmade, IsNext}
-use Rattle.shared_state.specs.Orderly.{AreNew, IsOrderly}
+use Rattle.shared_state.specs.Orderly.{AreNew, IsOrderly, ended_in, lasting}
 use Rattle.shared_state.specs.Parts.{Parts, state_of}
 use Rattle.shared_state.specs.declared.thread.Thread.{Thread}
 use Rattle.machine_state.specs.Serving.{change_of}
@@ -65,6 +65,7 @@ all_new heap h (effect.Moved k t ∷ es) n = absurd n
 all_new heap h (effect.MovedAll k ∷ es) n = absurd n
 all_new heap h (effect.Becomes k s ∷ es) n = absurd n
 all_new heap h (effect.Started k ∷ es) n = absurd n
+all_new heap h (effect.Finished t ∷ es) n = absurd n
 all_new heap h (effect.Lost u ∷ es) n = absurd n
 all_new heap h (effect.Printed bytes ∷ es) n = absurd n
 
@@ -115,10 +116,16 @@ orderly_new heap h (a ∷ b ∷ []) n o = absurd (omega (arith, n))
 orderly_new heap h (a ∷ b ∷ c ∷ es) n o = all_new heap h (a ∷ b ∷ c ∷ es) o
 
 -- a state whose objects are made
-pub made_changed : (heap h : Heap) (es : List Effect) (p : Parts) (ts : List Thread) → AllNew heap es → changed (map (change_of h) es) (state_of p ts) ≡ state_of (record p { heap = all_made es p.heap }) ts
+pub made_changed : (heap h : Heap) (es : List Effect) (p : Parts) (ts : List Thread) → AllNew heap es → changed (lasting (map (change_of h) es)) (state_of p ts) ≡ state_of (record p { heap = all_made es p.heap }) ts
 made_changed heap h [] p ts n = refl
 made_changed heap h (effect.Made k b ∷ es) p ts n = made_changed (put name_cmp k b heap) h es (record p { heap = put name_cmp k b p.heap }) ts n.1
 made_changed heap h (_ ∷ es) p ts n = absurd n
+
+-- no thread ends by new objects
+pub none_ended : (heap h : Heap) (es : List Effect) → AllNew heap es → ended_in (map (change_of h) es) ≡ None
+none_ended heap h [] n = refl
+none_ended heap h (effect.Made k b ∷ es) n = none_ended (put name_cmp k b heap) h es n.1
+none_ended heap h (_ ∷ es) n = absurd n
 
 -- at most two effects are these
 pub two_effects : (es rest : List Effect) (a b : Effect) → es ≡ (rest ++ a ∷ []) ++ b ∷ [] → length es ≤ 2 → es ≡ a ∷ b ∷ []

@@ -78,7 +78,7 @@ module _ (heap : Heap) (name : Name) where
   fine_load p n i (Some (Text us)) = none
   fine_load p n i (Some (Array vs)) = some _ (by_value (element_at i vs))
     where
-      by_value : (v : Option Value) → Fine (from (faulted p name array_index []) (λ v. reading (ElementOf n (unsigned_abs i)) (One v) (Some v)) v)
+      by_value : (v : Option Value) → Fine (from (faulted p name array_index) (λ v. reading (ElementOf n (unsigned_abs i)) (One v) (Some v)) v)
       by_value None = λ f. tt
       by_value (Some v) = λ f. tt
 
@@ -88,7 +88,7 @@ module _ (heap : Heap) (name : Name) where
   fine_store p n i v (Some (Text us)) = none
   fine_store p n i v (Some (Array vs)) = some _ (by_value (element_at i vs))
     where
-      by_value : (o : Option Value) → Fine (from (faulted p name array_index []) (λ old. if takes_value p n.class v then changing (SetsElement n (unsigned_abs i) v ∷ []) None else faulted p name array_store []) o)
+      by_value : (o : Option Value) → Fine (from (faulted p name array_index) (λ old. if takes_value p n.class v then changing (SetsElement n (unsigned_abs i) v ∷ []) None else faulted p name array_store) o)
       by_value None = λ f. tt
       by_value (Some w) = either_deed (takes_value p n.class v) _ _ (λ f. tt) (λ f. tt)
 

@@ -49,7 +49,7 @@ levels_of p types there Entry ls h = record { raised = None; fit = subst (λ (x 
 levels_of p types there Running ls h = record { raised = None; fit = h }
 levels_of p types there (Raising e) ls h = record { raised = Some e; fit = h.1 }
 levels_of p types there (Waiting n k) ls h = record { raised = None; fit = h.1 }
-levels_of p types there Ended ls h = record { raised = None; fit = h }
+levels_of p types there Ended ls h = record { raised = h.0; fit = h.1 }
 
 -- the frame on top fits
 top_fits : (p : Program) (types : Types) (there : Name → Bool) (f : Frame) (ls : List Level) → HasLevels p types there (Code f ∷ ls) → FrameFits p types there f

@@ -7,7 +7,7 @@ use Rattle.machine_state.specs.declared.state.Choice.{Choice}
 use Rattle.machine_state.specs.declared.state.ThreadState.{ThreadState}
 use Rattle.machine_state.specs.State.{State}
 use Rattle.machine_state.specs.Step.{Taken, attempt, allowed, granted, moved_on, after, step, step_of, taken_by}
-use Rattle.machine_state.proofs.FrameLaws.{threads_kept}
+use Rattle.machine_state.proofs.FrameLaws.{Lasts, threads_last}
 use Rattle.frame_soundness.specs.AcceptedProgram.{Types, Accepted}
 use Rattle.machine_soundness.specs.Bodies.{there_in}
 use Rattle.machine_soundness.specs.Sound.{Sound}
@@ -25,10 +25,10 @@ steps p m c th k at deed fits =
     ap (step_of p m c) at ∙ ap (λ o. from None (λ j. Some (moved_on m c.thread th j)) o) taken_is
 
 -- the thread after it
-stepped_thread : (p : Program) (m : State) (t : ℕ) (th : ThreadState) (k : Taken) → slice_get m.threads t ≡ Some th → slice_get (moved_on m t th k).threads t ≡ Some (after th k.stand)
+stepped_thread : (p : Program) (m : State) (t : ℕ) (th : ThreadState) (k : Taken) → slice_get m.threads t ≡ Some th → Lasts (moved_on m t th k).threads t (after th k.stand)
 unfolding moved_on
 stepped_thread p m t th k at =
-    threads_kept k.deed.changes (record m { threads = slice_set m.threads t (after th k.stand) }) t (after th k.stand)
+    threads_last k.deed.changes (record m { threads = slice_set m.threads t (after th k.stand) }) t (after th k.stand)
     (set_there m.threads t (after th k.stand) (slice_get_within m.threads t th at))
 
 -- a step leaves its thread with levels that fit
@@ -36,5 +36,6 @@ pub stands_fit : (p : Program) (types : Types) → Accepted p types → (m : Sta
 stands_fit p types a m c th k sound at deed fits =
     let l : State = moved_on m c.thread th k in
     let now = sound-step p types a m l c sound (steps p m c th k at deed fits) in
-    let thread = now.threads c.thread (after th k.stand) (stepped_thread p m c.thread th k at) in
-    levels_of p types (there_in l.heap) k.stand.0 k.stand.1 thread.levels
+    let own = stepped_thread p m c.thread th k at in
+    let thread = now.threads c.thread own.thread own.is_there in
+    subst (HasLevels p types (there_in l.heap)) own.levels (levels_of p types (there_in l.heap) own.thread.mode own.thread.levels thread.levels)

@@ -64,7 +64,7 @@ fn give(image: &Image, asked: Asked, value: Option<Value>, mode: &mut Mode, leve
             *mode = after_init(levels.as_slice());
         }
         Asked::InitFail => drop_init(levels),
-        Asked::Finish => *mode = Mode::Ended,
+        Asked::Finish => {}
         Asked::Other => turn_top(image, Turn::Answers(value), levels),
     }
 }

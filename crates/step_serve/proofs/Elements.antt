@@ -37,13 +37,13 @@ get_none n i vs e =
 pub load_told : (heap : Heap) (w : Wish) (p : Program) (n : Name) (i : ℤ) (vs : List Value) (v : Value) (s : Served) → Some v ≡ element_at i vs → ((d : Deed) → IsPlain heap effects.Nothing (Gives (Some v)) d → Tells heap w d s) → TellsSome heap w (load p s.choice.name n i (Some (Array vs))) s
 load_told heap w p n i vs v s e told =
     let at : Value → Deed = λ (x : Value). reading (ElementOf n (unsigned_abs i)) (One x) (Some x) in
-    subst (λ (o : Option Value). Tells heap w (from (faulted p s.choice.name array_index []) at o) s) e
+    subst (λ (o : Option Value). Tells heap w (from (faulted p s.choice.name array_index) at o) s) e
     (told (at v) (record { makes = refl; waiters = refl; changes = refl; answers = refl }))
 
 -- an element that is there is written
 pub store_told : (heap : Heap) (w : Wish) (p : Program) (n : Name) (i : ℤ) (v old : Value) (vs : List Value) (s : Served) → Some old ≡ element_at i vs → Tells heap w (stored p s.choice.name n i v (takes_value p n.class v)) s → TellsSome heap w (store p s.choice.name n i v (Some (Array vs))) s
 store_told heap w p n i v old vs s e told =
-    subst (λ (o : Option Value). Tells heap w (from (faulted p s.choice.name array_index []) (λ (x : Value). stored p s.choice.name n i v (takes_value p n.class v)) o) s) e told
+    subst (λ (o : Option Value). Tells heap w (from (faulted p s.choice.name array_index) (λ (x : Value). stored p s.choice.name n i v (takes_value p n.class v)) o) s) e told
 
 -- its array takes the value
 pub set_told : (heap : Heap) (w : Wish) (p : Program) (n : Name) (i : ℤ) (v : Value) (k : ℕ) (b : Bool) (s : Served) → b ≡ true → k ≡ unsigned_abs i → ((d : Deed) → IsPlain heap (effects.One (effect.SetsElement n k v)) (Gives None) d → Tells heap w d s) → Tells heap w (stored p s.choice.name n i v b) s
@@ -52,6 +52,6 @@ set_told heap w p n i v k b s t is told =
     (told _ (record { makes = refl; waiters = refl; changes = ap (λ (j : ℕ). SetsElement n j v ∷ []) is; answers = refl }))
 
 -- or doesn't
-pub refused_told : (heap : Heap) (w : Wish) (p : Program) (n : Name) (i : ℤ) (v : Value) (b : Bool) (s : Served) → b ≡ false → Tells heap w (faulted p s.choice.name array_store []) s → Tells heap w (stored p s.choice.name n i v b) s
+pub refused_told : (heap : Heap) (w : Wish) (p : Program) (n : Name) (i : ℤ) (v : Value) (b : Bool) (s : Served) → b ≡ false → Tells heap w (faulted p s.choice.name array_store) s → Tells heap w (stored p s.choice.name n i v b) s
 refused_told heap w p n i v b s t told =
     subst (λ (x : Bool). Tells heap w (stored p s.choice.name n i v x) s) (sym t) told

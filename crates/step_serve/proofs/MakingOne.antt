@@ -19,10 +19,10 @@ use Rattle.machine_state.specs.declared.served.Effect.TheVariants as effect
 use Rattle.machine_state.specs.declared.state.Choice.{Choice}
 use Rattle.machine_state.specs.Serving.{changes_of}
 use Rattle.machine_state.specs.State.{Heap}
-use Rattle.step_serve.specs.Telling.{IsMaking}
+use Rattle.step_serve.specs.Telling.{IsMaking, with_changes}
 
 -- an exception, under the choice's name
-pub fault_made : (heap : Heap) (p : Program) (class : ℕ) (effects : Effects) (zeros : List Value) (c r : Choice) (more : List Change) → r ≡ c → zeros ≡ zeros_of p class → changes_of heap effects ≡ Made c.name (Fields zeros) ∷ more → IsMaking heap class effects (Raises c.name) (faulted p r.name class more)
+pub fault_made : (heap : Heap) (p : Program) (class : ℕ) (effects : Effects) (zeros : List Value) (c r : Choice) (more : List Change) → r ≡ c → zeros ≡ zeros_of p class → changes_of heap effects ≡ Made c.name (Fields zeros) ∷ more → IsMaking heap class effects (Raises c.name) (with_changes more (faulted p r.name class))
 fault_made heap p class effects zeros c r more same z e = record {
   makes = refl;
   waiters = refl;

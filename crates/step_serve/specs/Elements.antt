@@ -11,4 +11,4 @@ use Rattle.machine_state.specs.Deeds.{Deed, changing, faulted}
 abbrev pub stored : Program → Name → Name → ℤ → Value → Bool → Deed
 stored p name n i v takes =
     if takes then changing (SetsElement n (unsigned_abs i) v ∷ []) None
-    else faulted p name array_store []
+    else faulted p name array_store

@@ -1,11 +1,12 @@
 -- What is told of deeds, where only the heap matters.
-use Rattle.std.specs.Prelude.{◌≡◌, ℕ, List, [], ◌∷◌, Option, Some, None}
+use Rattle.std.specs.Prelude.{◌≡◌, ℕ, List, [], ◌∷◌, ◌++◌, Option, Some, None}
 use Rattle.machine_state.specs.declared.request.Answer.{Answer}
 use Rattle.machine_state.specs.declared.served.Effects.{Effects}
 use Rattle.machine_state.specs.declared.served.Served.{Served}
 use Rattle.machine_state.specs.declared.served.Wish.{Wish}
 use Rattle.machine_state.specs.declared.served.Wish.TheVariants as wish
 use Rattle.machine_state.specs.declared.state.Choice.{Choice}
+use Rattle.machine_state.specs.Changes.{Change}
 use Rattle.machine_state.specs.Deeds.{Deed}
 use Rattle.machine_state.specs.Serving.{IsServed, changes_of}
 use Rattle.machine_state.specs.State.{State, Heap}
@@ -35,6 +36,10 @@ TellsSome heap w (Some d) s = Tells heap w d s
 abbrev pub TellsOf : Heap → Wish → (Choice → Option Deed) → Option Served → Type 0
 TellsOf heap w deed None = (c : Choice) → deed c ≡ None
 TellsOf heap w deed (Some s) = TellsSome heap w (deed s.choice) s
+
+-- a deed with further changes
+abbrev pub with_changes : List Change → Deed → Deed
+with_changes cs d = record d { changes = d.changes ++ cs }
 
 -- a deed that makes nothing and picks nobody, with these changes and this answer
 pub record IsPlain (heap : Heap) (effects : Effects) (answer : Answer) (d : Deed) : Type 0 where

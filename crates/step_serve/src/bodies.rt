@@ -102,7 +102,7 @@ fn load_element<N: Names>(
 {
     match element_at(index, elements) {
         Some(value) => Ok(quiet(server.wish, Some(value))),
-        None => fault(alloc, server, ARRAY_INDEX, None),
+        None => fault(alloc, server, ARRAY_INDEX),
     }
 }
 
@@ -171,7 +171,7 @@ fn set_element<N: Names>(
         let effect = Effect::SetsElement(name, index.unsigned_abs(), value);
         Ok(changing(server.wish, effect))
     } else {
-        fault(alloc, server, ARRAY_STORE, None)
+        fault(alloc, server, ARRAY_STORE)
     }
 }
 
@@ -189,7 +189,7 @@ fn store_element<N: Names>(
         (store server.now.image.now s.choice.name name index value (Some (object.Array elements.now))) s) }
 {
     match element_at(index, elements) {
-        None => fault(alloc, server, ARRAY_INDEX, None),
+        None => fault(alloc, server, ARRAY_INDEX),
         Some(_) => set_element(alloc, server, name, index, value),
     }
 }

@@ -10,7 +10,7 @@ ghost use Rattle.step_serve.specs.Blank.{AreBlanks};
 ghost use Rattle.step_serve.specs.Telling.{Tells, TellsOf};
 
 use crate::boot::INITIALIZER_ERROR;
-use crate::faults::{Server, fault};
+use crate::faults::{Server, fault_with};
 use crate::names::Names;
 use crate::telling::changing;
 use jvm_base::NoMemory;
@@ -77,7 +77,7 @@ fn failed<N: Names>(
 {
     let effect = Effect::Becomes(class, ClassState::Failed);
     if made {
-        fault(alloc, server, INITIALIZER_ERROR, Some(effect))
+        fault_with(alloc, server, INITIALIZER_ERROR, Some(effect))
     } else {
         Ok(changing(server.wish, effect))
     }

@@ -7,7 +7,7 @@ ghost use Rattle.machine_state.specs.Events.{Place, Held};
 ghost use Rattle.machine_state.specs.Serving.{change_of, changes_of};
 ghost use Rattle.machine_state.specs.State.{Heap};
 ghost use Rattle.step_serve.specs.Blank.{AreBlanks};
-ghost use Rattle.step_serve.specs.Telling.{Tells};
+ghost use Rattle.step_serve.specs.Telling.{Tells, with_changes};
 
 use crate::blanks::Blanks;
 use crate::boot::STRING;
@@ -28,7 +28,7 @@ pub struct Server<'a, N> {
     pub wish: Wish,
 }
 
-/// The effects of an exception that is made, before a further one.
+/// The effects of an exception that is made, and a further one.
 fn fault_effects(made: Effect, more: Option<Effect>) -> Effects
     ensures { (heap : Heap) → changes_of heap result ≡ change_of heap made
         ∷ map (change_of heap) (option_to_list more) }
@@ -39,8 +39,8 @@ fn fault_effects(made: Effect, more: Option<Effect>) -> Effects
     }
 }
 
-/// An exception of a class is made and raised, before a further effect.
-pub(crate) fn fault<N: Names>(
+/// An exception of a class is made and raised, with a further effect.
+pub(crate) fn fault_with<N: Names>(
     alloc: Global,
     server: &Server<N>,
     class: u32,
@@ -48,7 +48,8 @@ pub(crate) fn fault<N: Names>(
 ) -> Result<Served, NoMemory>
     requires { AreBlanks server.now.image.now server.now.blanks.now }
     ensures { IfOk result (λ s. Tells (N.heap server.now.names.now) server.now.wish
-        (faulted server.now.image.now s.choice.name class (map (change_of (N.heap server.now.names.now)) (option_to_list more))) s) }
+        (with_changes (map (change_of (N.heap server.now.names.now)) (option_to_list more))
+        (faulted server.now.image.now s.choice.name class)) s) }
 {
     let choice = making_choice(server.wish, class);
     let body = ObjectBody::Fields(server.blanks.zeros(alloc, server.image, class)?);
@@ -60,6 +61,19 @@ pub(crate) fn fault<N: Names>(
         effects,
         Answer::Raises(choice.name),
     ))
+}
+
+/// An exception of a class is made and raised.
+pub(crate) fn fault<N: Names>(
+    alloc: Global,
+    server: &Server<N>,
+    class: u32,
+) -> Result<Served, NoMemory>
+    requires { AreBlanks server.now.image.now server.now.blanks.now }
+    ensures { IfOk result (λ s. Tells (N.heap server.now.names.now) server.now.wish
+        (faulted server.now.image.now s.choice.name class) s) }
+{
+    fault_with(alloc, server, class, None)
 }
 
 /// A String of these units is made.

@@ -87,12 +87,12 @@ fn released(lock: Name, held: MonitorState) -> Effect
 fn unowned<N: Names>(alloc: Global, server: &Server<N>, raising: bool) -> Result<Served, NoMemory>
     requires { AreBlanks server.now.image.now server.now.blanks.now }
     ensures { IfOk result (λ s. Tells (N.heap server.now.names.now) server.now.wish
-        (if raising then quiet None else faulted server.now.image.now s.choice.name monitor_state []) s) }
+        (if raising then quiet None else faulted server.now.image.now s.choice.name monitor_state) s) }
 {
     if raising {
         Ok(quiet(server.wish, None))
     } else {
-        fault(alloc, server, MONITOR_STATE, None)
+        fault(alloc, server, MONITOR_STATE)
     }
 }
 
@@ -107,7 +107,7 @@ pub(crate) fn exit<N: Names>(
 ) -> Result<Served, NoMemory>
     requires { AreBlanks server.now.image.now server.now.blanks.now }
     ensures { IfOk result (λ s. Tells (N.heap server.now.names.now) server.now.wish
-        (by_owner thread owner (if raising then quiet None else faulted server.now.image.now s.choice.name monitor_state []) (leaves lock)) s) }
+        (by_owner thread owner (if raising then quiet None else faulted server.now.image.now s.choice.name monitor_state) (leaves lock)) s) }
 {
     match owned_by(thread, owner) {
         Some(held) => Ok(changing(server.wish, released(lock, held))),
@@ -125,14 +125,14 @@ pub(crate) fn wait<N: Names>(
 ) -> Result<Served, NoMemory>
     requires { AreBlanks server.now.image.now server.now.blanks.now }
     ensures { IfOk result (λ s. Tells (N.heap server.now.names.now) server.now.wish
-        (by_owner thread owner (faulted server.now.image.now s.choice.name monitor_state []) (sleeps thread lock)) s) }
+        (by_owner thread owner (faulted server.now.image.now s.choice.name monitor_state) (sleeps thread lock)) s) }
 {
     match owned_by(thread, owner) {
         Some(held) => {
             let effects = Effects::Two(Effect::Freed(lock), Effect::Sleeps(lock, thread));
             Ok(plain(server.wish, effects, Answer::Slept(held.count)))
         }
-        None => fault(alloc, server, MONITOR_STATE, None),
+        None => fault(alloc, server, MONITOR_STATE),
     }
 }
 
@@ -208,12 +208,12 @@ pub(crate) fn notify<N: Names>(
 ) -> Result<Served, NoMemory>
     requires { AreBlanks server.now.image.now server.now.blanks.now }
     ensures { IfOk result (λ s. Tells (N.heap server.now.names.now) server.now.wish
-        (by_owner thread owner (faulted server.now.image.now s.choice.name monitor_state [])
+        (by_owner thread owner (faulted server.now.image.now s.choice.name monitor_state)
         (λ o. notifies lock s.choice.pick (waiters_of lock waiting.now))) s) }
 {
     match owned_by(thread, owner) {
         Some(_) => Ok(wake_one(server.wish, lock, waiting)),
-        None => fault(alloc, server, MONITOR_STATE, None),
+        None => fault(alloc, server, MONITOR_STATE),
     }
 }
 
@@ -227,11 +227,11 @@ pub(crate) fn notify_all<N: Names>(
 ) -> Result<Served, NoMemory>
     requires { AreBlanks server.now.image.now server.now.blanks.now }
     ensures { IfOk result (λ s. Tells (N.heap server.now.names.now) server.now.wish
-        (by_owner thread owner (faulted server.now.image.now s.choice.name monitor_state []) (λ o. notifies_all lock)) s) }
+        (by_owner thread owner (faulted server.now.image.now s.choice.name monitor_state) (λ o. notifies_all lock)) s) }
 {
     match owned_by(thread, owner) {
         Some(_) => Ok(changing(server.wish, Effect::MovedAll(lock))),
-        None => fault(alloc, server, MONITOR_STATE, None),
+        None => fault(alloc, server, MONITOR_STATE),
     }
 }
 

@@ -53,7 +53,7 @@ fn serve_making<N: Names>(
     match request {
         Request::Make(class, sizes) => { Ok(Some(make(alloc, server, class, sizes.as_slice())?)) }
         Request::MakeText(units) => Ok(Some(text(server, units))),
-        Request::Fault(class) => Ok(Some(fault(alloc, server, class, None)?)),
+        Request::Fault(class) => Ok(Some(fault(alloc, server, class)?)),
         _ => Ok(None),
     }
 }

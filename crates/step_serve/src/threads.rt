@@ -11,9 +11,9 @@ ghost use Rattle.step_serve.specs.Telling.{Tells, TellsOf};
 use crate::boot::THREAD_STATE;
 use crate::faults::{Server, fault};
 use crate::names::Names;
-use crate::telling::{changing, quiet};
+use crate::telling::{changing, plain, quiet};
 use jvm_base::{List, Name, NoMemory, Uncaught};
-use machine_state::{Effect, Served, Wish};
+use machine_state::{Answer, Effect, Effects, Served, Wish};
 use std::alloc::Global;
 
 /// A Thread object is started once.
@@ -29,7 +29,7 @@ pub(crate) fn start<N: Names>(
 {
     match ended {
         None => Ok(changing(server.wish, Effect::Started(object))),
-        Some(_) => fault(alloc, server, THREAD_STATE, None),
+        Some(_) => fault(alloc, server, THREAD_STATE),
     }
 }
 
@@ -49,13 +49,14 @@ pub(crate) fn end(wish: Wish, thread: u32, exception: Option<Name>) -> Served
     ensures { (heap : Heap) → Tells heap wish (ends thread exception) result }
 {
     match exception {
-        None => quiet(wish, None),
+        None => changing(wish, Effect::Finished(thread)),
         Some(exception) => {
             let uncaught = Uncaught {
                 thread,
                 class: exception.class,
             };
-            changing(wish, Effect::Lost(uncaught))
+            let effects = Effects::Two(Effect::Lost(uncaught), Effect::Finished(thread));
+            plain(wish, effects, Answer::Gives(None))
         }
     }
 }

@@ -544,7 +544,7 @@ module _ (image : Program) (types : Types) (accepted : Accepted image types) (m 
           by_body (phase.Unlock v) b = drops
 
       raising-fits : (e : Name) (ls : List Level) → IsThrown image here e → LevelsFit image types here (Some e) ls → Right (planned image m c (Raising e) ls (raising_plan image e ls))
-      raising-fits e [] x h = ends-well (Raising e) [] (Finish (Some e)) refl (λ more g v. tt) (λ more g z y. (y, tt)) (λ more g k. (thrown-more more g e x, tt))
+      raising-fits e [] x h = ends-well (Raising e) [] (Finish (Some e)) refl (λ more g v. (thrown-more more g e x, tt)) (λ more g z y. (y, tt)) (λ more g k. (thrown-more more g e x, tt))
       raising-fits e (Code f ∷ ls) x h = raising-frame e f ls x h
       raising-fits e (Init k b ∷ ls) x h = ends-well (Raising e) (Init k b ∷ ls) (InitFail k _) refl (λ more g v. (thrown-more more g e x, lower-more (Some e) ls h.1 more g)) (λ more g z y. (y, lower-more (Some z) ls h.1 more g)) (λ more g j. (thrown-more more g e x, levels-more (Some e) (Init k b ∷ ls) h more g))
 

@@ -4,7 +4,7 @@ use Rattle.jvm_base.specs.declared.name.Name.{Name}
 use Rattle.program_image.specs.Buffers.{is_buffer}
 use Rattle.machine_state.specs.State.{Heap}
 use Rattle.machine_state.specs.Requests.{Key, OfBody, OfLock, OfClass, OfThreads, OfConsole}
-use Rattle.machine_state.specs.Changes.{Change, Made, SetsField, SetsElement, SetsContent, Owned, Freed, Sleeps, Moved, MovedAll, Becomes, Started, Lost, Printed}
+use Rattle.machine_state.specs.Changes.{Change, Made, SetsField, SetsElement, SetsContent, Owned, Freed, Sleeps, Moved, MovedAll, Becomes, Started, Finished, Lost, Printed}
 use Rattle.machine_state.specs.Events.{Place, Held, held_at}
 use Rattle.machine_state.specs.Deeds.{Deed}
 
@@ -21,6 +21,7 @@ IsAt key name (Moved n t) = key ≡ OfLock n
 IsAt key name (MovedAll n) = key ≡ OfLock n
 IsAt key name (Becomes c s) = key ≡ OfClass c
 IsAt key name (Started n) = key ≡ OfThreads
+IsAt key name (Finished t) = key ≡ OfThreads
 IsAt key name (Lost u) = key ≡ OfThreads
 IsAt key name (Printed us) = key ≡ OfConsole
 

@@ -3,6 +3,7 @@ use Rattle.std.specs.Prelude.{map, slice_get, slice_set}
 use Rattle.machine_state.specs.Changes.{changed}
 use Rattle.machine_state.specs.Serving.{changes_of}
 use Rattle.machine_state.specs.declared.state.ThreadState.{ThreadState}
+use Rattle.shared_state.specs.Orderly.{lasting}
 use Rattle.shared_state.specs.Parts.{state_of, thread_state}
 use Rattle.shared_state.specs.declared.thread.Thread.{Thread}
 use Rattle.one_machine.proofs.Doing.{same_states, get_set, get_front, item_there, always}
@@ -12,16 +13,16 @@ pub returns-in_default-clause-err : goal.returns-in_default-clause-err
 returns-in_default-clause-err c =
     always c.give_up.result (ap (λ (ts : List ThreadState). record (state_of c.args.shared.now c.args.threads.now.items) { threads = ts }) (same_states c.args.threads.now.items c.args.at c.index_mut.result.now c.make_ready.new.thread (item_there c.args.threads.now.items c.args.at c.index_mut.result.now c.requires.there c.index_mut.ensures.value) c.make_ready.ensures.same))
 
-pub returns-in_err-apply-clause-err : goal.returns-in_err-apply-clause-err
-returns-in_err-apply-clause-err c =
+pub returns-in_err-ended-clause-err : goal.returns-in_err-ended-clause-err
+returns-in_err-ended-clause-err c =
     always c.from_residual.result
-    (ap (λ s. state_of s c.apply.new.threads.items) c.in_err-apply.ensures.err ∙ ap (λ ts. state_of c.args.shared.now ts) c.in_err-apply.ensures.err_threads
+    (ap (λ s. state_of s c.apply.new.threads.items) c.in_err-ended.ensures.err ∙ ap (λ ts. state_of c.args.shared.now ts) c.in_err-ended.ensures.err_threads
     ∙ ap (λ (ts : List ThreadState). record (state_of c.args.shared.now c.args.threads.now.items) { threads = ts }) (same_states c.args.threads.now.items c.args.at c.index_mut.result.now c.make_ready.new.thread (item_there c.args.threads.now.items c.args.at c.index_mut.result.now c.requires.there c.index_mut.ensures.value) c.make_ready.ensures.same))
 
 pub returns-clause-ok : goal.returns-clause-ok
 returns-clause-ok c =
-    c.in_ok-apply.ensures.ok
-    ∙ ap (λ (ts : List ThreadState). changed (changes_of c.args.shared.now.heap c.args.effects) (record (state_of c.args.shared.now c.args.threads.now.items) { threads = ts })) (same_states c.args.threads.now.items c.args.at c.index_mut.result.now c.make_ready.new.thread (item_there c.args.threads.now.items c.args.at c.index_mut.result.now c.requires.there c.index_mut.ensures.value) c.make_ready.ensures.same)
+    c.in_ok-ended.ensures.ok
+    ∙ ap (λ (ts : List ThreadState). changed (lasting (changes_of c.args.shared.now.heap c.args.effects)) (record (state_of c.args.shared.now c.args.threads.now.items) { threads = ts })) (same_states c.args.threads.now.items c.args.at c.index_mut.result.now c.make_ready.new.thread (item_there c.args.threads.now.items c.args.at c.index_mut.result.now c.requires.there c.index_mut.ensures.value) c.make_ready.ensures.same)
 
 pub returns-clause-ready : goal.returns-clause-ready
 returns-clause-ready c = record {

@@ -6,12 +6,12 @@ use Rattle.step_serve.proofs.threads.end.Goals as goal
 
 pub returns-in-None : goal.returns-in-None
 returns-in-None c = λ heap.
-    subst (λ (o : Option Name). Tells heap c.args.wish (ends c.args.thread o) c.quiet.result)
+    subst (λ (o : Option Name). Tells heap c.args.wish (ends c.args.thread o) c.changing.result)
     (sym c.in-None.is)
-    (c.quiet.ensures heap _ (record { makes = refl; waiters = refl; changes = refl; answers = refl }))
+    (c.changing.ensures heap _ (record { makes = refl; waiters = refl; changes = refl; answers = refl }))
 
 pub returns-in-Some : goal.returns-in-Some
 returns-in-Some c = λ heap.
-    subst (λ (o : Option Name). Tells heap c.args.wish (ends c.args.thread o) c.changing.result)
+    subst (λ (o : Option Name). Tells heap c.args.wish (ends c.args.thread o) c.plain.result)
     (sym c.in-Some.is)
-    (c.changing.ensures heap _ (record { makes = refl; waiters = refl; changes = refl; answers = refl }))
+    (c.plain.ensures heap _ (record { makes = refl; waiters = refl; changes = refl; answers = refl }))
