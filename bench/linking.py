@@ -3,8 +3,9 @@
 
 Each class has methods with code that name members of other classes. The programs are checked, which verifies
 them too; each is accepted. Prints the time a class, net of the time of one small class, as the least of several
-runs. Behind them come hostile programs, of files that make a rule compare or read much again and again; of
-these it prints the time a megabyte. Usage: bench/linking.py (the program is built by ./cjvm).
+runs, and the most memory that one run has. Behind them come nine megabytes of ordinary
+classes, and hostile programs, of files that make a rule compare or read much again and again; of these it prints
+the time a megabyte. Usage: bench/linking.py (the program is built by ./cjvm).
 """
 import math
 import os
@@ -12,7 +13,7 @@ import struct
 import tempfile
 
 from linked import ABSTRACT, INTERFACE, MAIN, OBJECT, PUBLIC, STATIC, SUPER, Pool, method
-from program import CJVM, least_time, need_programs
+from program import CJVM, least_time, most_memory, need_programs
 
 COUNTS = (10, 100, 1000)
 USES = 20
@@ -90,6 +91,21 @@ def diamond(count):
         files.append(class_file(name, OBJECT, extended, PUBLIC | INTERFACE | ABSTRACT, b""))
         listed = [name]
     return [class_file(b"p/C0", OBJECT, listed, PUBLIC | SUPER, b"p/C0")] + files
+
+
+def ordinary(number, count):
+    """A class of a hundred methods, each of which calls eight of another class."""
+    pool, name, other = Pool(), name_of(number), name_of((number + 1) % count)
+    this, over = pool.named(7, name), pool.named(7, OBJECT)
+    field = struct.pack(">HHHH", PUBLIC | STATIC, pool.text(b"f"), pool.text(b"I"), 0)
+    methods = [main_method(pool)]
+    for k in range(100):
+        code = b""
+        for called in range(k, k + 8):
+            item = pool.member(10, other, b"m%d" % (called % 100), b"()V")
+            code += struct.pack(">BHBBH", 178, pool.member(9, other, b"f", b"I"), 87, 184, item)
+        methods.append(method(pool, b"m%d" % k, b"()V", code + b"\xb1"))
+    return joined(pool, PUBLIC | SUPER, this, over, [], [field], methods)
 
 
 # Hostile programs.
@@ -181,6 +197,47 @@ def many_called(pool):
     return b"\xb1" + repeated(struct.pack(">BH", 184, pool.member(10, LONG_NAME, b"all", MANY_LONG)))
 
 
+def interfaces(count):
+    """A chain of interfaces, each of which extends the one before it."""
+    above = [[]] + [[b"p/I%d" % k] for k in range(count)]
+    flags = PUBLIC | INTERFACE | ABSTRACT
+    return [class_file(b"p/I%d" % k, OBJECT, above[k], flags, b"") for k in range(count)]
+
+
+def listing(number, above, listed):
+    pool = Pool()
+    this, over = pool.named(7, b"p/C%d" % number), pool.named(7, above)
+    places = [pool.named(7, name) for name in listed]
+    return joined(pool, PUBLIC | SUPER, this, over, places, [], [main_method(pool)])
+
+
+def unused_items(classes, listed, count):
+    """A class with items, which no code uses, of methods that the last class of a chain doesn't have.
+
+    Each class of the chain lists the lowest of a chain of interfaces, and another class has the methods."""
+    members = signatures(count)
+    pool = Pool()
+    this, over = pool.named(7, b"p/User"), pool.named(7, OBJECT)
+    for name, desc in members:
+        pool.member(10, b"p/C%d" % (classes - 1), name, desc)
+    user = joined(pool, PUBLIC | SUPER, this, over, [], [], [main_method(pool)])
+    above = [OBJECT] + [b"p/C%d" % k for k in range(classes)]
+    lowest = [b"p/I%d" % (listed - 1)] if listed else []
+    chained = [listing(k, above[k], lowest) for k in range(classes)]
+    return [user, holder(b"p/Else", OBJECT, members), *chained, *interfaces(listed)]
+
+
+def array_types(count):
+    """A class whose code casts to array classes of 255 dimensions, each of another class."""
+    names = [b"p/E%d" % k for k in range(count)]
+
+    def uses(pool):
+        types = [pool.named(7, b"[" * 255 + b"L" + name + b";") for name in names]
+        return b"".join(struct.pack(">BBHB", 1, 192, item, 87) for item in types) + b"\xb1"
+
+    return [holder(b"p/C0", OBJECT, (), uses), *(holder(name, OBJECT) for name in names)]
+
+
 def alike(members):
     """A class of those abstract methods, beside the class of a long name."""
     return [holder(b"p/C0", OBJECT, members), target(LONG_NAME), holder(ARGUMENT, OBJECT)]
@@ -213,6 +270,7 @@ def one_interface():
 
 
 HOSTILE = (
+    ("900 ordinary classes", lambda: [ordinary(k, 900) for k in range(900)]),
     ("45,000 methods of one long name", of_one_name),
     ("45,000 methods of one long descriptor", of_one_desc),
     ("45,000 fields of one long type", fields_of_one_type),
@@ -228,6 +286,9 @@ HOSTILE = (
     ("16,000 reads of a field of its type", lambda: long_named(long_reads)),
     ("16,000 objects of such a class", lambda: long_named(news)),
     ("21,000 calls with 255 arguments of a long name", lambda: long_named(many_called)),
+    ("20,000 items not found, a chain of 1,000 classes", lambda: unused_items(1000, 0, 20000)),
+    ("the same, 500 classes that list 500 interfaces", lambda: unused_items(500, 500, 20000)),
+    ("200 array types of 255 dimensions", lambda: array_types(200)),
 )
 
 KINDS = (("a flat set", flat), ("a chain", chain), ("a diamond of interfaces", diamond))
@@ -251,14 +312,19 @@ def main():
             for count in COUNTS:
                 files = make(count)
                 size = sum(map(len, files))
-                took = least_time([CJVM, "check", *written(folder, files)], (0,), None)
+                words = [CJVM, "check", *written(folder, files)]
+                took, memory = least_time(words, (0,), None), most_memory(words)
                 net = max(took - small, 0) / count * 1e6
-                print(f"{name:24} {count:5} classes, {size:8} bytes: {took * 1000:8.2f} ms, {net:7.1f} us a class")
+                print(
+                    f"{name:24} {count:5} classes, {size:8} bytes: "
+                    f"{took * 1000:8.2f} ms, {net:7.1f} us a class, {memory:4.0f} MB"
+                )
         for name, make in HOSTILE:
             files = make()
             size = sum(map(len, files))
-            took = least_time([CJVM, "check", *written(folder, files)], (0, 3), None)
-            print(f"{name:48} {size:8} bytes: {took * 1000:9.2f} ms, {took * 1e9 / size:7.1f} ms a megabyte")
+            words = [CJVM, "check", *written(folder, files)]
+            took, memory = least_time(words, (0, 3), None), most_memory(words)
+            print(f"{name:48} {size:8} bytes: {took * 1000:9.2f} ms, {took * 1e9 / size:7.1f} ms a megabyte, {memory:4.0f} MB")
 
 
 main()

@@ -41,3 +41,18 @@ def least_time(words, statuses, output=b""):
         if spent > PATIENCE:
             break
     return best
+
+
+# Runs its words and prints the most memory that they have at once. A process has at first what its parent has, so that a
+# small one stands between.
+MEASURE = """
+import resource, subprocess, sys
+subprocess.run(sys.argv[1:], stdout=subprocess.DEVNULL, stderr=subprocess.DEVNULL)
+print(resource.getrusage(resource.RUSAGE_CHILDREN).ru_maxrss)
+"""
+
+
+def most_memory(words):
+    """The most memory, in megabytes, that a run of these words has at once; none is told as less than about ten."""
+    done = subprocess.run([sys.executable, "-S", "-c", MEASURE, *words], capture_output=True, check=True)
+    return int(done.stdout) / 1024

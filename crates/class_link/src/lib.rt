@@ -10,4 +10,4 @@ mod names;
 mod tables;
 
 pub use laws::{boot_is_apart, natives_are_intrinsics};
-pub use linking::{check, link};
+pub use linking::link;

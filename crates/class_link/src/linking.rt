@@ -9,8 +9,7 @@ ghost use Rattle.hierarchy.specs.Hierarchy.{IsRanked};
 ghost use Rattle.hierarchy.specs.Walks.{IsWalked};
 ghost use Rattle.link_rules.specs.Answers.{IsAnswer};
 ghost use Rattle.link_rules.specs.Numbers.{numbered, above_rows, super_rows};
-ghost use Rattle.link_rules.specs.Decoding.{undecoded_file};
-ghost use Rattle.link_rules.specs.Sizes.{HasFewMethods};
+ghost use Rattle.link_uses.specs.Items.{HaveItems};
 ghost use Rattle.link_uses.specs.Tables.{HasRanks};
 ghost use Rattle.class_link.specs.Linked.{linked};
 ghost use Rattle.class_link.specs.Mains.{first_number};
@@ -27,7 +26,7 @@ use code_table::Code;
 use jvm_base::{List, Units};
 use link_members::{Step, check_declared, check_overrides};
 use link_rules::{LinkErr, Program, check_descs, check_finals, check_kinds, decode_files};
-use link_uses::{Resolver, check_access, check_members, check_uses};
+use link_uses::{Found, Resolver, all_items, check_access, check_members, check_uses};
 use program_image::Image;
 use std::alloc::Global;
 
@@ -68,25 +67,31 @@ fn check_declarations(
     check_overrides(alloc, program, supers, ranks, FIRST, files)
 }
 
-/// What the files' code uses is there, of the right kind, and accessible.
+/// What the files' code uses is there, of the right kind, and accessible. It answers the members that
+/// their items lead to.
 #[tactic(auto, using(link_rules::proofs::Firsts::answer_back), unfolding(crate::specs::Refusals::use_refusals))]
 fn check_code(
     alloc: Global,
     resolver: &Resolver,
     files: &[ClassFile],
     codes: &[List<Option<Code>>],
-) -> Result<(), LinkErr>
+) -> Result<List<List<Option<Found>>>, LinkErr>
     requires count { length resolver.now ≡ FIRST + length files.now }
     requires few { length files.now ≤ 1024 }
     requires codes { codes.now ≡ map codes_of files.now }
-    ensures { IsAnswer (use_refusals resolver.now first_number files.now) result }
+    ensures items { IfOk result (λ items. HaveItems resolver.now files.now items) }
+    ensures answer { IsAnswer (use_refusals resolver.now first_number files.now) result }
 {
-    check_members(alloc, resolver, files, codes)?;
-    check_uses(alloc, resolver, files, codes)?;
-    check_access(alloc, resolver, FIRST, files, codes)
+    let found = all_items(alloc, resolver, files)?;
+    let items = found.as_slice();
+    check_members(alloc, resolver, files, items, codes)?;
+    check_uses(alloc, resolver, files, items, codes)?;
+    check_access(alloc, resolver, FIRST, files, items, codes)?;
+    Ok(found)
 }
 
-/// What looks members up, where the rules on members hold.
+/// What looks members up, and the members that the files' items lead to, where the rules on members
+/// hold.
 #[tactic(auto, using(link_rules::proofs::Firsts::answer_back), unfolding(crate::specs::Refusals::member_refusals))]
 fn resolved<'p, 'a>(
     alloc: Global,
@@ -94,20 +99,21 @@ fn resolved<'p, 'a>(
     ranks: &[u32],
     files: &[ClassFile],
     codes: &[List<Option<Code>>],
-) -> Result<Resolver<'p, 'a>, LinkErr>
+) -> Result<(Resolver<'p, 'a>, List<List<Option<Found>>>), LinkErr>
     requires program { program.now ≡ classes_of files.now }
     requires count { length program.now ≡ FIRST + length files.now }
     requires few { length files.now ≤ 1024 }
     requires ranked { IsRanked (above_rows program.now) ranks.now }
     requires codes { codes.now ≡ map codes_of files.now }
-    ensures resolver { IfOk result (λ resolver. resolver ≡ program.now) }
+    ensures resolver { IfOk result (λ r. r.0 ≡ program.now) }
+    ensures items { IfOk result (λ r. HaveItems r.0 files.now r.1) }
     ensures answer { IsAnswer (member_refusals program.now first_number files.now) result }
 {
     let supers = walk_table(alloc, program, ranks, Step::Super)?;
     check_declarations(alloc, program, supers.as_slice(), ranks, files, codes)?;
     let resolver = resolver(alloc, program, ranks, supers)?;
-    check_code(alloc, &resolver, files, codes)?;
-    Ok(resolver)
+    let items = check_code(alloc, &resolver, files, codes)?;
+    Ok((resolver, items))
 }
 
 /// The image of the program, where no rule refuses it.
@@ -129,11 +135,13 @@ fn link_program<'a>(
 {
     let program = named_program(alloc, boot, files, codes.as_slice())?;
     let ranks = check_above(alloc, &program, files)?;
-    let resolver = resolved(alloc, &program, ranks.as_slice(), files, codes.as_slice())?;
+    let (resolver, items) = resolved(alloc, &program, ranks.as_slice(), files, codes.as_slice())?;
     let start = main_method(alloc, files, main)?;
     let arrays = array_types(alloc, files, codes.as_slice(), main)?;
     let ranks = ranks.as_slice();
-    let image = image(alloc, &resolver, ranks, &arrays, boot, files, codes, start)?;
+    let image = image(
+        alloc, &resolver, ranks, &arrays, boot, files, items, codes, start,
+    )?;
     Ok(image)
 }
 
@@ -156,14 +164,4 @@ pub fn link(alloc: Global, files: &List<ClassFile>, main: &Units) -> Result<Imag
         codes,
         main.as_slice(),
     )
-}
-
-/// Whether the files are linked with a main class of that name, else the first refusal.
-pub fn check(alloc: Global, files: &List<ClassFile>, main: &Units) -> Result<(), LinkErr>
-    requires few { length files.now ≤ 1024 }
-    requires formed { All IsClass files.now }
-    ensures { IsAnswer (link_refusals files.now main.now) result }
-{
-    link(alloc, files, main)?;
-    Ok(())
 }

@@ -12,7 +12,7 @@ ghost use Rattle.link_arrays.specs.Literals.{literals};
 ghost use Rattle.link_image.specs.Image.{image_of};
 ghost use Rattle.link_rules.specs.Members.{wrong_members};
 ghost use Rattle.link_rules.specs.Numbers.{above_rows, methods_at};
-ghost use Rattle.link_rules.specs.Sizes.{HasFewMethods};
+ghost use Rattle.link_uses.specs.Items.{HaveItems};
 ghost use Rattle.class_link.specs.Refusals.{classes_of};
 
 use crate::tables::FIRST;
@@ -22,7 +22,7 @@ use jvm_base::{List, NoMemory};
 use link_arrays::{Arrays, Literals};
 use link_image::build;
 use link_rules::{LinkErr, decode_files};
-use link_uses::{Found, Resolver};
+use link_uses::{Found, Resolver, all_items};
 use program_image::Image;
 use std::alloc::Global;
 
@@ -39,7 +39,8 @@ fn boot_codes(alloc: Global, boot: &[ClassFile]) -> Result<List<List<Option<Code
     }
 }
 
-/// The image of the boot classes and the files, which begins in a method of theirs.
+/// The image of the boot classes and the files, which begins in a method of theirs; `items` are the
+/// members that the files' items lead to.
 pub(crate) fn image(
     alloc: Global,
     resolver: &Resolver<'_, '_>,
@@ -47,6 +48,7 @@ pub(crate) fn image(
     arrays: &Arrays,
     boot: &[ClassFile],
     files: &[ClassFile],
+    items: List<List<Option<Found>>>,
     codes: List<List<Option<Code>>>,
     start: Found,
 ) -> Result<Image, NoMemory>
@@ -58,14 +60,16 @@ pub(crate) fn image(
     requires arrays { arrays.now ≡ array_types files.now }
     requires count { too_many (FIRST + length files.now) files.now ≡ false }
     requires declared { flat_map wrong_members files.now ≡ [] }
+    requires items { HaveItems resolver.now files.now items }
     requires codes { codes ≡ map codes_of files.now }
     requires start { start.place < length (methods_at (classes_of files.now) start.class) }
     ensures { IfOk result (λ image. image
         ≡ image_of (classes_of files.now) (array_types files.now) (literals files.now) start) }
 {
     let boot_codes = boot_codes(alloc, boot)?;
+    let boot_items = all_items(alloc, resolver, boot)?;
     let literals = Literals::of(alloc, files, codes.as_slice())?;
     build(
-        alloc, resolver, ranks, arrays, &literals, boot_codes, codes, start,
+        alloc, resolver, ranks, arrays, &literals, boot_items, items, boot_codes, codes, start,
     )
 }

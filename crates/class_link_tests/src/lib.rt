@@ -11,6 +11,8 @@ mod builder;
 #[cfg(test)]
 mod classes;
 #[cfg(test)]
+mod deep;
+#[cfg(test)]
 mod images;
 #[cfg(test)]
 mod members;

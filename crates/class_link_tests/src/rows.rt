@@ -61,6 +61,12 @@ fn answer(alloc: Global, files: &List<ClassFile>) -> Result<String, NoMemory> {
     }
 }
 
+/// What linking the program of a text answers, with a main class behind it.
+pub(crate) fn answer_of(alloc: Global, given: &str) -> Result<String, NoMemory> {
+    let text = format!(in alloc; "{given}|{MAIN}")?;
+    answer(alloc, &program(alloc, text.as_str())?)
+}
+
 /// The first row of the table that isn't answered as it says, with its answer, where this class
 /// stands behind each program.
 fn wrong_row(alloc: Global, table: &str, last: &str) -> Result<Option<String>, NoMemory> {

@@ -36,22 +36,6 @@ impl FlowFrame {
         }
     }
 
-    /// The same frame once more.
-    pub fn copy(&self, alloc: Global) -> Result<FlowFrame, NoMemory>
-        ensures { IfOk result (λ f. f ≡ self.now) }
-    {
-        let mut locals = List::new(alloc);
-        locals.append(self.locals.as_slice())?;
-        let mut stack = List::new(alloc);
-        stack.append(self.stack.as_slice())?;
-        Ok(FlowFrame {
-            locals,
-            stack,
-            fresh: self.fresh,
-            clash: self.clash,
-        })
-    }
-
     /// Whether a frame may flow to where this one stands. It takes no memory.
     #[tactic(auto, unfolding(crate::specs::Frames::frame_fits))]
     pub fn takes(&self, image: &Image, low: &FlowFrame) -> bool

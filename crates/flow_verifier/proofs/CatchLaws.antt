@@ -18,9 +18,9 @@ use Rattle.flow_verifier.specs.declared.method.Method.{Method}
 use Rattle.flow_verifier.specs.Methods.{ops_of, room_of, IsMethod}
 use Rattle.flow_verifier.specs.Given.{covers, given, catching, frame_caught}
 use Rattle.flow_verifier.specs.Typing.{frame_at, FitsPlace, FitsThere, IsClosed}
-use Rattle.flow_verifier.specs.Flowing.{merged, IsMore}
-use Rattle.flow_verifier.specs.Ranges.{covers_place}
-use Rattle.flow_verifier.specs.Catching.{without_operands, TakenAt, IsCatching}
+use Rattle.flow_verifier.specs.Worklist.Flowing.{merged, IsMore}
+use Rattle.flow_verifier.specs.Worklist.Ranges.{covers_place}
+use Rattle.flow_verifier.specs.Worklist.Catching.{without_operands, TakenAt, IsCatching}
 use Rattle.flow_verifier.proofs.GivenLaws.{given-clash, given-open, given-mono}
 use Rattle.flow_verifier.proofs.Worklist.{fit-up, place-up, merged-frame, merged-right, given-below}
 use Rattle.flow_verifier.proofs.Leads.{handler_way}

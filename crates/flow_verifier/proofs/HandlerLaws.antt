@@ -16,10 +16,10 @@ use Rattle.flow_verifier.specs.declared.method.Handler.{Handler}
 use Rattle.flow_verifier.specs.declared.method.Method.{Method}
 use Rattle.flow_verifier.specs.Methods.{ops_of}
 use Rattle.flow_verifier.specs.Given.{covers}
-use Rattle.flow_verifier.specs.HandlerTrees.{includes, AreWithin}
-use Rattle.flow_verifier.specs.Ranges.{covers_place}
-use Rattle.flow_verifier.specs.Leading.{ways_caught}
-use Rattle.flow_verifier.specs.Catching.{AreCovering}
+use Rattle.flow_verifier.specs.Worklist.HandlerTrees.{includes, AreWithin}
+use Rattle.flow_verifier.specs.Worklist.Ranges.{covers_place}
+use Rattle.flow_verifier.specs.Worklist.Leading.{ways_caught}
+use Rattle.flow_verifier.specs.Worklist.Catching.{AreCovering}
 use Rattle.flow_verifier.proofs.CatchLaws.{covers_at}
 
 -- ---- spans

@@ -12,8 +12,8 @@ use Rattle.flow_verifier.specs.declared.method.Edge.{Edge}
 use Rattle.flow_verifier.specs.declared.method.Edge.TheVariants.{Next}
 use Rattle.flow_verifier.specs.Methods.{ops_of, place_of}
 use Rattle.flow_verifier.specs.Given.{jump_edges, fall_edges, covers, catching, edges_there, edges}
-use Rattle.flow_verifier.specs.Ranges.{covers_place}
-use Rattle.flow_verifier.specs.Leading.{jump_places, fall_places, successors_there, successors, ways_caught}
+use Rattle.flow_verifier.specs.Worklist.Ranges.{covers_place}
+use Rattle.flow_verifier.specs.Worklist.Leading.{jump_places, fall_places, successors_there, successors, ways_caught}
 
 -- ---- lists
 

@@ -12,8 +12,8 @@ use Rattle.flow_verifier.specs.declared.method.Method.{Method}
 use Rattle.flow_verifier.specs.Methods.{ops_of, IsMethod, room_of}
 use Rattle.flow_verifier.specs.Given.{edges}
 use Rattle.flow_verifier.specs.Typing.{frame_at, entry_frame, IsAssignment, sum_to, ways, places, most_steps}
-use Rattle.flow_verifier.specs.Potential.{place_rank, most, weighed, listed, potential}
-use Rattle.flow_verifier.specs.Flowing.{merged, Flows, stays, rises, waits}
+use Rattle.flow_verifier.specs.Worklist.Potential.{place_rank, most, weighed, listed, potential}
+use Rattle.flow_verifier.specs.Worklist.Flowing.{merged, Flows, stays, rises, waits}
 use Rattle.flow_verifier.proofs.Worklist.{merged-left, merged-frame, merged-new, none-at, start-frame}
 
 listed-append : (w : ℕ → ℕ) (xs ys : List ℕ) → listed w (xs ++ ys) ≡ listed w xs + listed w ys

@@ -13,7 +13,7 @@ use Rattle.flow_verifier.specs.declared.method.Handler.{Handler}
 use Rattle.flow_verifier.specs.declared.method.Method.{Method}
 use Rattle.flow_verifier.specs.declared.ranges.Ranges.{Ranges}
 use Rattle.flow_verifier.specs.Methods.{ops_of, place_of, IsMethod, Rises}
-use Rattle.flow_verifier.specs.Ranges.{flag_at, covers_place, turns_at, flags_to, range_at, AreNumbered, AreRanges}
+use Rattle.flow_verifier.specs.Worklist.Ranges.{flag_at, covers_place, turns_at, flags_to, range_at, AreNumbered, AreRanges}
 
 -- ---- flags, counted
 

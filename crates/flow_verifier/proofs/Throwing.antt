@@ -21,12 +21,12 @@ use Rattle.flow_verifier.specs.declared.rising.Rising.{Rising}
 use Rattle.flow_verifier.specs.Methods.{ops_of, room_of, IsMethod}
 use Rattle.flow_verifier.specs.Given.{covers, given, target, catching, edges}
 use Rattle.flow_verifier.specs.Typing.{frame_at, FitsPlace, FitsThere}
-use Rattle.flow_verifier.specs.Flowing.{Flows, IsAlike, IsMore}
-use Rattle.flow_verifier.specs.Ranges.{covers_place, range_at}
-use Rattle.flow_verifier.specs.Leading.{ways_caught}
-use Rattle.flow_verifier.specs.Catching.{without_operands, AreCovering, TakenAt, AreTaken, IsCatching, IsUncaught}
-use Rattle.flow_verifier.specs.Going.{IsGoing, IsPartly, IsTakenOff, IsMarked, IsCatcher, IsPut, IsThrowing}
-use Rattle.flow_verifier.specs.Potential.{potential}
+use Rattle.flow_verifier.specs.Worklist.Flowing.{Flows, IsAlike, IsMore}
+use Rattle.flow_verifier.specs.Worklist.Ranges.{covers_place, range_at}
+use Rattle.flow_verifier.specs.Worklist.Leading.{ways_caught}
+use Rattle.flow_verifier.specs.Worklist.Catching.{without_operands, AreCovering, TakenAt, AreTaken, IsCatching, IsUncaught}
+use Rattle.flow_verifier.specs.Worklist.Going.{IsGoing, IsPartly, IsTakenOff, IsMarked, IsCatcher, IsPut, IsThrowing}
+use Rattle.flow_verifier.specs.Worklist.Potential.{potential}
 use Rattle.flow_verifier.proofs.GivenLaws.{given-frame}
 use Rattle.flow_verifier.proofs.Worklist.{IsFlow, has-place, get-set-same, get-set-other, set-length, place-up, flow, none-at, off-start, partly-start, partly-off, partly-flow, partly-all}
 use Rattle.flow_verifier.proofs.PotentialLaws.{flow-falls}

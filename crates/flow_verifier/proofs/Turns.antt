@@ -8,8 +8,8 @@ use Rattle.flow_verifier.specs.declared.method.Method.{Method}
 use Rattle.flow_verifier.specs.Methods.{ops_of, IsMethod}
 use Rattle.flow_verifier.specs.Given.{edges}
 use Rattle.flow_verifier.specs.Typing.{entry_frame, most_steps}
-use Rattle.flow_verifier.specs.Going.{IsGoing}
-use Rattle.flow_verifier.specs.Potential.{potential, steps_left, turns_left}
+use Rattle.flow_verifier.specs.Worklist.Going.{IsGoing}
+use Rattle.flow_verifier.specs.Worklist.Potential.{potential, steps_left, turns_left}
 use Rattle.flow_verifier.proofs.Worklist.{going-start}
 use Rattle.flow_verifier.proofs.PotentialLaws.{pop-falls, start-potential}
 

@@ -17,11 +17,11 @@ use Rattle.flow_verifier.specs.declared.visit.Visit.{Visit}
 use Rattle.flow_verifier.specs.Methods.{room_of, IsMethod}
 use Rattle.flow_verifier.specs.Given.{given, edges}
 use Rattle.flow_verifier.specs.Typing.{frame_at}
-use Rattle.flow_verifier.specs.Flowing.{Flows, IsAlike}
-use Rattle.flow_verifier.specs.Leading.{successors, ways_caught}
-use Rattle.flow_verifier.specs.Catching.{IsCatching}
-use Rattle.flow_verifier.specs.Going.{IsFlagged, IsGoing, IsPartly, IsTakenOff, IsMarked, IsCatcher, IsFlowing, IsPut, IsVisiting}
-use Rattle.flow_verifier.specs.Potential.{potential}
+use Rattle.flow_verifier.specs.Worklist.Flowing.{Flows, IsAlike}
+use Rattle.flow_verifier.specs.Worklist.Leading.{successors, ways_caught}
+use Rattle.flow_verifier.specs.Worklist.Catching.{IsCatching}
+use Rattle.flow_verifier.specs.Worklist.Going.{IsFlagged, IsGoing, IsPartly, IsTakenOff, IsMarked, IsCatcher, IsFlowing, IsPut, IsVisiting}
+use Rattle.flow_verifier.specs.Worklist.Potential.{potential}
 use Rattle.flow_verifier.proofs.GivenLaws.{given-clash, given-open, given-frame, edge-is}
 use Rattle.flow_verifier.proofs.Worklist.{partly-start, partly-end, flag-set, flag-clear, flag-length}
 use Rattle.flow_verifier.proofs.Leads.{next_way, ways_are}

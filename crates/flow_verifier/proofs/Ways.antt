@@ -11,9 +11,9 @@ use Rattle.flow_verifier.specs.Methods.{ops_of, IsMethod}
 use Rattle.flow_verifier.specs.Given.{given, target, edges}
 use Rattle.flow_verifier.proofs.GivenLaws.{given-frame, IsEdge, edge-is}
 use Rattle.flow_verifier.specs.Typing.{frame_at, FitsThere}
-use Rattle.flow_verifier.specs.Going.{In, IsPartly}
-use Rattle.flow_verifier.specs.Flowing.{Flows, Rose, stays, rises, waits}
-use Rattle.flow_verifier.specs.Potential.{potential}
+use Rattle.flow_verifier.specs.Worklist.Going.{In, IsPartly}
+use Rattle.flow_verifier.specs.Worklist.Flowing.{Flows, Rose, stays, rises, waits}
+use Rattle.flow_verifier.specs.Worklist.Potential.{potential}
 use Rattle.flow_verifier.proofs.Worklist.{IsFlow, flow, partly-step}
 use Rattle.flow_verifier.proofs.PotentialLaws.{flow-falls}
 

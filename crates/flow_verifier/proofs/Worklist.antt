@@ -16,8 +16,8 @@ use Rattle.flow_verifier.specs.Given.{given, target, edges}
 use Rattle.flow_verifier.proofs.GivenLaws.{given-mono}
 use Rattle.instruction_table.specs.LowestRule.{lowest}
 use Rattle.flow_verifier.specs.Typing.{frame_at, FitsPlace, FitsThere, entry_frame, IsAssignment, IsClosed, IsLeast, IsTyping, IsBroken}
-use Rattle.flow_verifier.specs.Going.{In, IsFlagged, Settled, IsGoing, IsPartly, IsTakenOff}
-use Rattle.flow_verifier.specs.Flowing.{merged, Flows, stays, rises, waits}
+use Rattle.flow_verifier.specs.Worklist.Going.{In, IsFlagged, Settled, IsGoing, IsPartly, IsTakenOff}
+use Rattle.flow_verifier.specs.Worklist.Flowing.{merged, Flows, stays, rises, waits}
 
 in-left : (i : ℕ) (xs ys : List ℕ) → In i xs → In i (xs ++ ys)
 in-left i [] ys h = absurd h

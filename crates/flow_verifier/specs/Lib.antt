@@ -1,11 +1,5 @@
 pub mod Methods
 pub mod Given
-pub mod Ranges
 pub mod Typing
 pub mod Reasons
-pub mod Flowing
-pub mod Leading
-pub mod HandlerTrees
-pub mod Catching
-pub mod Going
-pub mod Potential
+pub mod Worklist

@@ -4,8 +4,8 @@ ghost use Rattle.std.specs.Prelude.{◌≡◌, ◌<◌, ◌||◌, ℕ, length, I
 ghost use Rattle.std.specs.List.{list_any};
 ghost use Rattle.flow_verifier.specs.Methods.{IsMethod};
 ghost use Rattle.flow_verifier.specs.Given.{is_bad_at};
-ghost use Rattle.flow_verifier.specs.Ranges.{flag_at};
-ghost use Rattle.flow_verifier.specs.Going.{IsKnown};
+ghost use Rattle.flow_verifier.specs.Worklist.Ranges.{flag_at};
+ghost use Rattle.flow_verifier.specs.Worklist.Going.{IsKnown};
 
 use crate::handler_tree::HandlerTree;
 use crate::method::{Handler, Method, ops_of};

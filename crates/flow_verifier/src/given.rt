@@ -9,7 +9,7 @@ ghost use Rattle.instruction_table.specs.LowestRule.{lowest};
 ghost use Rattle.instruction_table.specs.Rows.{jumps, falls};
 ghost use Rattle.instruction_table.specs.Working.{site_of, slots, row_rules, next};
 ghost use Rattle.flow_verifier.specs.Methods.{ops_of, place_of, IsMethod};
-ghost use Rattle.flow_verifier.specs.Going.{IsKnown};
+ghost use Rattle.flow_verifier.specs.Worklist.Going.{IsKnown};
 ghost use Rattle.flow_verifier.specs.Given.{work_of, frame_of_work, depth_rules, is_missing, after_rules, last_rules, row_at, is_past, op_rules, is_bad_at, place_rules, rules_there, open_rules, broken, next_there, frame_after, frame_caught, given, jump_edges, fall_edges, covers, catching, edges_there, edges};
 
 use crate::facts::Facts;

@@ -4,7 +4,7 @@ ghost use Rattle.std.specs.Prelude.{◌≡◌, ◌++◌, ◌∷◌, [], filter, 
 ghost use Rattle.std.specs.List.{list_any};
 ghost use Rattle.flow_verifier.specs.declared.method.Handler.{Handler};
 ghost use Rattle.flow_verifier.specs.Given.{covers};
-ghost use Rattle.flow_verifier.specs.HandlerTrees.{handlers_in, includes, AreWithin, IsBounded};
+ghost use Rattle.flow_verifier.specs.Worklist.HandlerTrees.{handlers_in, includes, AreWithin, IsBounded};
 
 use crate::method::Handler;
 use jvm_base::{List, NoMemory};

@@ -1,10 +1,10 @@
 //! A method as the verifier sees it.
 
-ghost use Rattle.std.specs.Prelude.{◌≡◌, ◌<◌, ◌^◌, ◌++◌, ◌+◌, ℕ, length, map, nat_lt, not, ◌&&◌, slice_get, IfOk, OnOk, Some};
+ghost use Rattle.std.specs.Prelude.{◌≡◌, ◌<◌, ◌^◌, ◌++◌, ◌+◌, length, map, nat_lt, not, ◌&&◌, slice_get, IfOk, OnOk, Some};
 ghost use Rattle.program_image.specs.Program.{target_of};
 ghost use Rattle.program_image.specs.Handlers.{code_of};
 ghost use Rattle.instruction_table.specs.ClassTypes.{desc_type, args_of};
-ghost use Rattle.flow_verifier.specs.Methods.{ops_of, place_of, begins_fresh, receiver, with_half, spread, parameters, fitted, class_caught, handler_class, handlers_from, method_with, IsMethod};
+ghost use Rattle.flow_verifier.specs.Methods.{ops_of, Rises, place_of, begins_fresh, receiver, with_half, spread, parameters, fitted, class_caught, handler_class, handlers_from, method_with, IsMethod};
 
 use code_table::{Code, Placed};
 use flow_types::FlowType;
@@ -68,8 +68,7 @@ pub(crate) fn address_of(image: &Image, m: &Method, place: usize) -> u32
 /// The place of the instruction at an address.
 pub(crate) fn place_of(ops: &[Placed], at: u32) -> u32
     requires few { length ops.now < 2 ^ 32 }
-    requires rising { (i j : ℕ) (a b : Placed) → slice_get ops.now i ≡ Some a
-        → slice_get ops.now j ≡ Some b → i < j → a.at < b.at }
+    requires rising { Rises ops.now }
     ensures { result ≡ place_of ops.now at }
 {
     ops.partition_point(|placed| placed.at < at) as u32
@@ -170,8 +169,7 @@ fn handlers(
     requires within { number < length image.now.methods }
     requires small { length code.now.table < 65536 }
     requires few { length code.now.ops < 2 ^ 32 }
-    requires rising { (i j : ℕ) (a b : Placed) → slice_get code.now.ops i ≡ Some a
-        → slice_get code.now.ops j ≡ Some b → i < j → a.at < b.at }
+    requires rising { Rises code.now.ops }
     ensures { IfOk result (λ hs. hs
         ≡ handlers_from image.now number code.now.ops 0 code.now.table) }
 {
@@ -199,8 +197,7 @@ pub(crate) fn method_with(
     requires within { number < length image.now.methods }
     requires small { length code.now.table < 65536 }
     requires few { length code.now.ops < 2 ^ 32 }
-    requires rising { (i j : ℕ) (a b : Placed) → slice_get code.now.ops i ≡ Some a
-        → slice_get code.now.ops j ≡ Some b → i < j → a.at < b.at }
+    requires rising { Rises code.now.ops }
     ensures { IfOk result (λ m. m ≡ method_with image.now number code.now) }
 {
     let types = parameters(alloc, image, number)?;

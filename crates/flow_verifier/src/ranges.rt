@@ -3,7 +3,7 @@
 ghost use Rattle.std.specs.Prelude.{◌≡◌, ◌<◌, ◌^◌, ◌==◌, ◌||◌, ℕ, length, IfOk};
 ghost use Rattle.std.specs.List.{list_any};
 ghost use Rattle.flow_verifier.specs.Methods.{ops_of, place_of, IsMethod, Rises};
-ghost use Rattle.flow_verifier.specs.Ranges.{flag_at, turns_at, range_at, AreNumbered, AreRanges};
+ghost use Rattle.flow_verifier.specs.Worklist.Ranges.{flag_at, turns_at, range_at, AreNumbered, AreRanges};
 
 use crate::method::{Handler, Method, ops_of, place_of};
 use crate::rising::no_flags;

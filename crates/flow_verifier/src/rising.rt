@@ -6,8 +6,8 @@ ghost use Rattle.std.proofs.Math.ListN.{replicate};
 ghost use Rattle.flow_types.specs.Tree.{superclasses, IsTree};
 ghost use Rattle.flow_verifier.specs.Methods.{ops_of, IsMethod};
 ghost use Rattle.flow_verifier.specs.Typing.{frame_at, entry_frame};
-ghost use Rattle.flow_verifier.specs.Flowing.{Flows, Rose, IsAlike};
-ghost use Rattle.flow_verifier.specs.Going.{In, IsFlagged, IsMarked, IsStart};
+ghost use Rattle.flow_verifier.specs.Worklist.Flowing.{Flows, Rose, IsAlike};
+ghost use Rattle.flow_verifier.specs.Worklist.Going.{In, IsFlagged, IsMarked, IsStart};
 
 use crate::catches::Catches;
 use crate::method::{Method, ops_of};

@@ -5,8 +5,8 @@ ghost use Rattle.flow_types.specs.Tree.{superclasses, IsTree};
 ghost use Rattle.flow_types.specs.Frames.{clash_frame, frame_fits, frame_joined};
 ghost use Rattle.flow_verifier.specs.Given.{work_of, frame_of_work};
 ghost use Rattle.flow_verifier.specs.Typing.{entry_frame};
-ghost use Rattle.flow_verifier.specs.Catching.{without_operands};
-ghost use Rattle.flow_verifier.specs.Going.{IsCatcher, IsPut};
+ghost use Rattle.flow_verifier.specs.Worklist.Catching.{without_operands};
+ghost use Rattle.flow_verifier.specs.Worklist.Going.{IsCatcher, IsPut};
 
 use crate::method::Method;
 use flow_types::{FlowFrame, FlowType};

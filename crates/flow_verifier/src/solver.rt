@@ -4,7 +4,7 @@ ghost use Rattle.std.specs.Prelude.{◌≡◌, ◌+◌, ◌≤◌, IfOk};
 ghost use Rattle.flow_types.specs.Tree.{superclasses, IsTree};
 ghost use Rattle.flow_verifier.specs.Methods.{IsMethod};
 ghost use Rattle.flow_verifier.specs.Typing.{IsLeast, most_steps};
-ghost use Rattle.flow_verifier.specs.Going.{IsKnown};
+ghost use Rattle.flow_verifier.specs.Worklist.Going.{IsKnown};
 
 use crate::facts::Facts;
 use crate::method::Method;

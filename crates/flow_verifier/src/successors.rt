@@ -3,7 +3,7 @@
 ghost use Rattle.std.specs.Prelude.{◌≡◌, ◌<◌, ◌^◌, ◌++◌, ◌∷◌, [], ℕ, length, map, nat_lt, slice_get, IfOk, OnOk, Some};
 ghost use Rattle.instruction_table.specs.Rows.{jumps, falls};
 ghost use Rattle.flow_verifier.specs.Methods.{ops_of, place_of, IsMethod, Rises};
-ghost use Rattle.flow_verifier.specs.Leading.{jump_places, fall_places, successors_there, successors};
+ghost use Rattle.flow_verifier.specs.Worklist.Leading.{jump_places, fall_places, successors_there, successors};
 
 use crate::method::{Method, ops_of, place_of};
 use code_table::{Op, Placed};
@@ -98,7 +98,7 @@ fn push_successors(
 }
 
 /// The places of the instructions to which control goes on from the one at a place.
-#[tactic(auto, unfolding(crate::specs::Leading::successors))]
+#[tactic(auto, unfolding(crate::specs::Worklist::Leading::successors))]
 pub(crate) fn successors_of(
     alloc: Global,
     image: &Image,

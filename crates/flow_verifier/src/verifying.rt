@@ -5,7 +5,7 @@ ghost use Rattle.program_image.specs.Program.{Program};
 ghost use Rattle.program_image.specs.Handlers.{code_of};
 ghost use Rattle.flow_types.specs.Tree.{superclasses, IsTree};
 ghost use Rattle.flow_verifier.specs.Methods.{ops_of, method_of, IsMethod, IsVerifiable};
-ghost use Rattle.flow_verifier.specs.Going.{IsKnown};
+ghost use Rattle.flow_verifier.specs.Worklist.Going.{IsKnown};
 ghost use Rattle.flow_verifier.specs.Typing.{frame_at, Judged, most_steps, rule_of, NoneBroken, IsFirst};
 
 use crate::answer::{FlowErr, VerifyErr};

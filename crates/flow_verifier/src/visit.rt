@@ -5,10 +5,10 @@ ghost use Rattle.flow_types.specs.Tree.{superclasses, IsTree};
 ghost use Rattle.flow_verifier.specs.Methods.{IsMethod};
 ghost use Rattle.flow_verifier.specs.Given.{edges};
 ghost use Rattle.flow_verifier.specs.Typing.{frame_at};
-ghost use Rattle.flow_verifier.specs.Leading.{successors, ways_caught};
-ghost use Rattle.flow_verifier.specs.Catching.{IsCatching};
-ghost use Rattle.flow_verifier.specs.Going.{IsKnown, IsMarked, IsGoing, IsTakenOff, IsFlowing, IsVisiting};
-ghost use Rattle.flow_verifier.specs.Potential.{potential};
+ghost use Rattle.flow_verifier.specs.Worklist.Leading.{successors, ways_caught};
+ghost use Rattle.flow_verifier.specs.Worklist.Catching.{IsCatching};
+ghost use Rattle.flow_verifier.specs.Worklist.Going.{IsKnown, IsMarked, IsGoing, IsTakenOff, IsFlowing, IsVisiting};
+ghost use Rattle.flow_verifier.specs.Worklist.Potential.{potential};
 
 use crate::facts::Facts;
 use crate::given::given_next;

@@ -17,4 +17,4 @@ mod step;
 pub use answer::{Fault, Given, Pure};
 pub use numbers::{as_byte, as_short, as_unit};
 pub use seen::answer_at;
-pub use step::{call_count, complete, complete_at, placed_at, pure_step, step_at};
+pub use step::{call_count, complete, complete_at, placed_at, placed_near, pure_step, step_at};

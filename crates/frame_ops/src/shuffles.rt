@@ -13,8 +13,7 @@ ghost use Rattle.frame_ops.specs.Operands.{is_wide, shuffled, under};
 ghost use Rattle.frame_ops.specs.Shuffles.{few_values, put_values};
 
 use crate::moved::Moved;
-use code_table::opcode;
-use instruction_table::Group;
+use instruction_table::{Group, dup_groups, pop_group};
 use jvm_base::{Operands, Value};
 
 /// At most two values that were taken, the newest first.
@@ -61,16 +60,6 @@ fn put(few: Few, stack: &mut Operands)
     }
 }
 
-fn pop_group(op: u8) -> Group
-    ensures { row.Drops result ≡ pop_row op }
-{
-    if op == opcode::POP {
-        Group::One
-    } else {
-        Group::Wide
-    }
-}
-
 /// Takes a group off.
 pub(crate) fn pop(op: u8, stack: &mut Operands) -> Moved
     ensures moved { result ≡ Behind }
@@ -80,19 +69,6 @@ pub(crate) fn pop(op: u8, stack: &mut Operands) -> Moved
     let group = pop_group(op);
     let _ = take_group(group, stack);
     Moved::Behind
-}
-
-fn dup_groups(op: u8) -> (Group, Group)
-    ensures { row.Doubles result.0 result.1 ≡ dup_row op }
-{
-    match op {
-        opcode::DUP => (Group::One, Group::Nothing),
-        opcode::DUP_X1 => (Group::One, Group::One),
-        opcode::DUP_X2 => (Group::One, Group::Wide),
-        opcode::DUP2 => (Group::Wide, Group::Nothing),
-        opcode::DUP2_X1 => (Group::Wide, Group::One),
-        _ => (Group::Wide, Group::Wide),
-    }
 }
 
 /// Puts a copy of the top group below the one under it.

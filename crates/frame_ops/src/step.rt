@@ -27,14 +27,44 @@ fn place_of(ops: &[Placed], at: u32) -> usize
     ops.partition_point(|placed| placed.at < at)
 }
 
+/// The same place, where this one is tried before a search.
+fn place_near(ops: &[Placed], at: u32, near: usize) -> usize
+    requires { IsRising ops.now }
+    ensures { from None (if_there at) (slice_get ops.now result) ≡ find (λ p. p.at == at) ops.now }
+{
+    match ops.get(near) {
+        Some(placed) if placed.at == at => near,
+        _ => place_of(ops, at),
+    }
+}
+
+/// The instruction of a place, where it has the address.
+fn placed_here(ops: &[Placed], place: usize, at: u32) -> Option<&Placed>
+    ensures { option_copied result ≡ from None (if_there at) (slice_get ops.now place) }
+{
+    let placed = ops.get(place)?;
+    if placed.at == at { Some(placed) } else { None }
+}
+
 /// The instruction at an address; `None` exactly where none begins there.
 pub fn placed_at(code: &Code, at: u32) -> Option<&Placed>
     requires { IsRising code.now.ops }
     ensures { option_copied result ≡ placed_in code.now at }
 {
-    let place = place_of(code.ops.as_slice(), at);
-    let placed = code.ops.get(place)?;
-    if placed.at == at { Some(placed) } else { None }
+    let ops = code.ops.as_slice();
+    placed_here(ops, place_of(ops, at), at)
+}
+
+/// The same, where the place is tried before a search, and is left one further: most instructions
+/// lead to the one behind them.
+pub fn placed_near<'a>(code: &'a Code, at: u32, place: &mut usize) -> Option<&'a Placed>
+    requires { IsRising code.now.ops }
+    ensures { option_copied result ≡ placed_in code.now at }
+{
+    let ops = code.ops.as_slice();
+    let here = place_near(ops, at, *place);
+    *place = here.wrapping_add(1);
+    placed_here(ops, here, at)
 }
 
 /// What an instruction comes to, by its family, with its locals and operands as it leaves them.

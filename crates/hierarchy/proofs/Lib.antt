@@ -1,6 +1,7 @@
 pub mod ClosureLaws
 pub mod Filling
 pub mod Items
+pub mod Joining
 pub mod LoopLaws
 pub mod Marking
 pub mod Reach

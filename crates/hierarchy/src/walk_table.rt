@@ -24,7 +24,7 @@ fn add(all: &mut List<u32>, seen: &mut [bool], x: u32) -> Result<(), NoMemory>
 }
 
 /// Adds what isn't there yet.
-fn add_all(all: &mut List<u32>, seen: &mut [bool], more: &[u32]) -> Result<(), NoMemory>
+pub(crate) fn add_all(all: &mut List<u32>, seen: &mut [bool], more: &[u32]) -> Result<(), NoMemory>
     requires inside { All (λ x. x < length seen.old) more.now }
     requires marked { AreMarked seen.old all.old }
     ensures { OnOk result (AddsAll seen.old seen.new all.old all.new more.now) }

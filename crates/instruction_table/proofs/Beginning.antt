@@ -1,14 +1,15 @@
 -- One type made another.
-use Rattle.std.proofs.Common.{◌≡◌, ◌∙◌, ◌⊎◌, ◌==◌, sym, ap, refl, ℕ, zero, suc, true, false, List, [], ◌∷◌, ◌++◌, inl, inr, eqb→eq}
+use Rattle.std.proofs.Common.{◌≡◌, ◌∙◌, ◌⊎◌, ◌==◌, sym, ap, refl, ℕ, true, false, List, [], ◌∷◌, ◌++◌, inl, inr, eqb→eq}
 use Rattle.std.specs.Prelude.{map, reverse}
 use Rattle.std.proofs.lemmas.Bool.{cases_Bool, eq-eqb}
 use Rattle.std.proofs.lemmas.Float.{T_from_true}
 use mathlib.Core.List.{reverse-cons, map-append}
 use Rattle.flow_types.specs.declared.flow_type.FlowType.{FlowType}
 use Rattle.flow_types.specs.declared.flow_type.FlowType.TheVariants.{Unusable, Int, Long, High, Null, Class, Array, Fresh, FreshThis}
-use Rattle.shared_types.specs.Trees.{AreReplaced}
+use Rattle.shared_types.specs.Trees.{AreReplaced, longs, more_slots}
 use Rattle.instruction_table.specs.Working.{begun, begun_one, is_same_new}
-use Rattle.instruction_table.specs.Needs.{is_uninitialised}
+use Rattle.instruction_table.specs.Needs.{is_uninitialised, is_long}
+use Rattle.instruction_table.proofs.Stacks.{short_slots}
 
 reverse-map : (f : FlowType → FlowType) (xs : List FlowType) → reverse (map f xs) ≡ map f (reverse xs)
 reverse-map f [] = refl
@@ -17,6 +18,40 @@ reverse-map f (x ∷ xs) =
 
 pub reverse_begun : (was now : FlowType) (xs : List FlowType) → reverse (begun was now xs) ≡ begun was now (reverse xs)
 reverse_begun was now xs = reverse-map (begun_one was now) xs
+
+-- no long is of an object that isn't initialised
+new_short : (was : FlowType) → is_same_new was Long ≡ false
+new_short Unusable = refl
+new_short Int = refl
+new_short Long = refl
+new_short High = refl
+new_short Null = refl
+new_short (Class c) = refl
+new_short (Array d e) = refl
+new_short (Fresh b) = refl
+new_short FreshThis = refl
+
+new_slots : (was t : FlowType) → is_same_new was t ≡ true → more_slots t ≡ 0
+new_slots was Unusable e = refl
+new_slots was Int e = refl
+new_slots was Long e = let f : false ≡ true = sym (new_short was) ∙ e in absurd cc
+new_slots was High e = refl
+new_slots was Null e = refl
+new_slots was (Class c) e = refl
+new_slots was (Array d f) e = refl
+new_slots was (Fresh b) e = refl
+new_slots was FreshThis e = refl
+
+-- what begins is no long, nor is what it becomes
+short_begun : (was now t : FlowType) → is_long now ≡ false → more_slots (begun_one was now t) ≡ more_slots t
+short_begun was now t h = elim (cases_Bool (is_same_new was t)) [
+  | inl e ↦ rw e (short_slots now h ∙ sym (new_slots was t e))
+  | inr e ↦ rw e refl
+]
+
+pub longs_begun : (was now : FlowType) (xs : List FlowType) → is_long now ≡ false → longs (begun was now xs) ≡ longs xs
+longs_begun was now [] h = refl
+longs_begun was now (x ∷ xs) h = rw (short_begun was now x h, longs_begun was now xs h) refl
 
 pub never_unusable : (was : FlowType) → is_uninitialised was ≡ true → was ≡ Unusable → ⊥
 never_unusable was h e = absurd (let f : is_uninitialised Unusable ≡ true = rw e at h in cc)

@@ -1,5 +1,5 @@
 -- The class of a name, as the image's table tells it.
-use Rattle.std.proofs.Common.{◌≡◌, ◌∙◌, sym, ap, refl, ℕ, suc, Bool, true, false, if◌then◌else◌, List, [], ◌∷◌, Option, Some, None, nat_eq}
+use Rattle.std.proofs.Common.{◌≡◌, ◌∙◌, sym, ap, refl, ℕ, suc, Bool, true, false, if◌then◌else◌, List, [], ◌∷◌, Some, None, nat_eq}
 use Rattle.std.specs.Cmp.Lexicographic.{pointwise}
 use Rattle.jvm_base.specs.Words.{from}
 use Rattle.program_image.specs.declared.info.ClassInfo.{ClassInfo}

@@ -1,9 +1,9 @@
 -- Room of lists of types.
-use Rattle.std.proofs.Common.{◌≡◌, ◌∙◌, sym, ap, refl, ◌+◌, ◌-◌, ◌<◌, ◌≤◌, List, [], ◌∷◌, ◌++◌, length, drop, slice_get, Some, None, true, false, zero, arith}
+use Rattle.std.proofs.Common.{◌≡◌, ◌∙◌, sym, ap, refl, ◌+◌, ◌-◌, ◌<◌, ◌≤◌, List, [], ◌∷◌, ◌++◌, length, drop, slice_get, Some, None, true, false, if◌then◌else◌, arith}
 use Rattle.std.specs.Prelude.{reverse, get_or}
 use Rattle.std.proofs.lemmas.List.{length-reverse, get_or-reverse, reverse-reverse}
 use Rattle.std.proofs.lemmas.Option.{get_or_from_slice_get}
-use Rattle.shared_types.specs.Trees.{longs}
+use Rattle.shared_types.specs.Trees.{longs, more_slots}
 use Rattle.shared_types.proofs.Laws.{get_there}
 use Rattle.instruction_table.specs.Needs.{is_long}
 use mathlib.Core.List.{reverse-cons}
@@ -73,24 +73,23 @@ pub slots_longs : (xs : List FlowType) → slots xs ≡ length xs + longs xs
 slots_longs [] = refl
 slots_longs (x ∷ xs) = omega (arith, slots_one x xs, slots_longs xs)
 
+-- a long takes a slot more, and nothing else does
+more-slots : (t : FlowType) → more_slots t ≡ (if is_long t then 1 else 0)
+more-slots Unusable = refl
+more-slots Int = refl
+more-slots Long = refl
+more-slots High = refl
+more-slots Null = refl
+more-slots (Class c) = refl
+more-slots (Array d e) = refl
+more-slots (Fresh a) = refl
+more-slots FreshThis = refl
+
+pub short_slots : (t : FlowType) → is_long t ≡ false → more_slots t ≡ 0
+short_slots t h = more-slots t ∙ rw h refl
+
 pub long_one : (t : FlowType) → is_long t ≡ true → longs (t ∷ []) ≡ 1
-long_one Unusable h = absurd cc
-long_one Int h = absurd cc
-long_one Long h = refl
-long_one High h = absurd cc
-long_one Null h = absurd cc
-long_one (Class c) h = absurd cc
-long_one (Array d e) h = absurd cc
-long_one (Fresh a) h = absurd cc
-long_one FreshThis h = absurd cc
+long_one t h = rw (more-slots t, h) refl
 
 pub short_one : (t : FlowType) → is_long t ≡ false → longs (t ∷ []) ≡ 0
-short_one Unusable h = refl
-short_one Int h = refl
-short_one Long h = absurd cc
-short_one High h = refl
-short_one Null h = refl
-short_one (Class c) h = refl
-short_one (Array d e) h = refl
-short_one (Fresh a) h = refl
-short_one FreshThis h = refl
+short_one t h = rw (short_slots t h) refl

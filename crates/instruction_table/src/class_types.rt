@@ -126,7 +126,7 @@ pub fn primitive_of(number: u8) -> Primitive
 }
 
 /// The class that a place in the code names.
-pub fn class_at(image: &Image, method: u32, at: u32) -> u32
+pub fn class_named_at(image: &Image, method: u32, at: u32) -> u32
     requires { method < length image.now.methods }
     ensures { result ≡ class_in (target_of image.now method at) }
 {
@@ -154,7 +154,7 @@ pub fn field_class_at(image: &Image, method: u32, at: u32) -> u32
 }
 
 /// The method that a place in the code names.
-pub fn method_at(image: &Image, method: u32, at: u32) -> u32
+pub fn method_named_at(image: &Image, method: u32, at: u32) -> u32
     requires { method < length image.now.methods }
     ensures { result ≡ method_in (target_of image.now method at) }
 {

@@ -16,5 +16,5 @@ pub use class_types::{class_type, desc_type, is_initialiser, is_static, owner_of
 pub use lowest::lower;
 pub use row::{Gives, Group, Need, Row, Slot};
 pub use stack::Stack;
-pub use table::{THROWABLE, falls, row_of};
+pub use table::{THROWABLE, dup_groups, falls, pop_group, row_of};
 pub use work::Work;

@@ -1,12 +1,12 @@
 //! The types of a stack, seen with the newest first.
 
-ghost use Rattle.std.specs.Prelude.{◌≡◌, ◌∷◌, ◌++◌, [], nat_lt, drop, length, replicate, reverse, slice_set, IfOk, MatchOption, OnOk};
+ghost use Rattle.std.specs.Prelude.{◌≡◌, ◌∷◌, ◌++◌, [], nat_lt, false, drop, length, replicate, reverse, slice_set, IfOk, MatchOption, OnOk};
 ghost use Rattle.std.specs.Bool.{MatchBool};
 ghost use Rattle.flow_types.specs.Tree.{superclasses, IsTree};
 ghost use Rattle.flow_types.specs.TypeLists.{types_joined};
 ghost use Rattle.shared_types.specs.Trees.{all_operands};
 ghost use Rattle.instruction_table.specs.LowestRule.{lowest};
-ghost use Rattle.instruction_table.specs.Needs.{needs_rules};
+ghost use Rattle.instruction_table.specs.Needs.{needs_rules, is_long};
 ghost use Rattle.instruction_table.specs.Working.{slots, begun, first_or, under};
 ghost use Rattle.instruction_table.specs.Groups.{IsTaken, IsPair, values, broken};
 
@@ -122,7 +122,7 @@ impl Stack {
         depth > room as usize || self.wide > room as usize - depth
     }
 
-    /// Makes each copy of an uninitialised type another type.
+    /// Makes each copy of an uninitialised type another type, which isn't a long either.
     #[tactic(auto, using(crate::proofs::Beginning::reverse_begun))]
     pub(crate) fn begin(
         &mut self,
@@ -130,10 +130,10 @@ impl Stack {
         was: FlowType,
         now: FlowType,
     ) -> Result<(), NoMemory>
+        requires { is_long now ≡ false }
         ensures { OnOk result (self.new ≡ begun was now self.old) }
     {
         begin_all(alloc, &mut self.items, was, now)?;
-        self.wide = self.items.longs();
         Ok(())
     }
 

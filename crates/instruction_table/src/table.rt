@@ -3,11 +3,13 @@
 ghost use Rattle.std.specs.Prelude.{◌≡◌, ◌<◌, length, ◌∷◌, ◌++◌, ◌%◌, [], drop, reverse, replicate, map, IfOk, OnOk};
 ghost use Rattle.program_image.specs.Program.{target_of};
 ghost use Rattle.instruction_table.specs.ClassTypes.{class_in, field_class_in, method_in, owner_of, result_of};
+ghost use Rattle.instruction_table.specs.declared.row.Row.TheVariants as rows;
 ghost use Rattle.instruction_table.specs.Rows.{row, number, number_type, value, reference, object_of, load_slot, store_slot, array_load, array_store, pop_row, dup_row, resize_row, return_row, return_need, is_of_kind, static_row, field_row, is_direct, receiver_class, arguments, result as result_given, invoke_row, cast_row, acts, sizes_row, falls};
 
 use crate::class_types::{
-    array_over, class_at, class_type, constant_type, desc_type, field_class_at, is_initialiser,
-    is_private, is_super, method_at, owner_of, plain, primitive_of, result_of,
+    array_over, class_named_at, class_type, constant_type, desc_type, field_class_at,
+    is_initialiser, is_private, is_super, method_named_at, owner_of, plain, primitive_of,
+    result_of,
 };
 use crate::need::is_reference;
 use crate::row::{Gives, Group, Need, Row, Slot};
@@ -128,26 +130,40 @@ fn array_store(alloc: Global, op: u8) -> Result<Row, NoMemory>
     acts(alloc, &[value, Need::Int, array], Gives::Nothing)
 }
 
-fn pop_row(op: u8) -> Row
-    ensures { result ≡ pop_row op }
+/// What an instruction drops.
+pub fn pop_group(op: u8) -> Group
+    ensures { rows.Drops result ≡ pop_row op }
 {
     match op {
-        opcode::POP => Row::Drops(Group::One),
-        _ => Row::Drops(Group::Wide),
+        opcode::POP => Group::One,
+        _ => Group::Wide,
     }
 }
 
-fn dup_row(op: u8) -> Row
-    ensures { result ≡ dup_row op }
+fn pop_row(op: u8) -> Row
+    ensures { result ≡ pop_row op }
 {
-    let (top, below) = match op {
+    Row::Drops(pop_group(op))
+}
+
+/// What an instruction doubles, and what lies below that.
+pub fn dup_groups(op: u8) -> (Group, Group)
+    ensures { rows.Doubles result.0 result.1 ≡ dup_row op }
+{
+    match op {
         opcode::DUP => (Group::One, Group::Nothing),
         opcode::DUP_X1 => (Group::One, Group::One),
         opcode::DUP_X2 => (Group::One, Group::Wide),
         opcode::DUP2 => (Group::Wide, Group::Nothing),
         opcode::DUP2_X1 => (Group::Wide, Group::One),
         _ => (Group::Wide, Group::Wide),
-    };
+    }
+}
+
+fn dup_row(op: u8) -> Row
+    ensures { result ≡ dup_row op }
+{
+    let (top, below) = dup_groups(op);
     Row::Doubles { top, below }
 }
 
@@ -404,7 +420,7 @@ pub fn row_of(alloc: Global, image: &Image, method: u32, at: u32, op: &Op) -> Re
         }
         Op::Invoke { op, item: _, desc } => {
             let owner = owner_of(image, method);
-            let named = method_at(image, method, at);
+            let named = method_named_at(image, method, at);
             invoke_row(alloc, image, owner, *op, desc.get(), named)
         }
         Op::New(_) => acts(alloc, &[], Gives::One(FlowType::Fresh(at))),
@@ -416,11 +432,15 @@ pub fn row_of(alloc: Global, image: &Image, method: u32, at: u32, op: &Op) -> Re
             acts(alloc, &[Need::Int], Gives::One(of))
         }
         Op::AnewArray(_) => {
-            let part = class_type(image, class_at(image, method, at));
+            let part = class_type(image, class_named_at(image, method, at));
             acts(alloc, &[Need::Int], Gives::One(array_over(part)))
         }
         Op::MultiNewArray { item: _, dims } => {
-            sizes_row(alloc, *dims, class_type(image, class_at(image, method, at)))
+            sizes_row(
+                alloc,
+                *dims,
+                class_type(image, class_named_at(image, method, at)),
+            )
         }
         Op::ArrayLength => acts(alloc, &[Need::Array], Gives::One(FlowType::Int)),
         Op::Athrow => {
@@ -431,7 +451,11 @@ pub fn row_of(alloc: Global, image: &Image, method: u32, at: u32, op: &Op) -> Re
             acts(alloc, &[thrown], Gives::Nothing)
         }
         Op::Cast { op, item: _ } => {
-            cast_row(alloc, *op, class_type(image, class_at(image, method, at)))
+            cast_row(
+                alloc,
+                *op,
+                class_type(image, class_named_at(image, method, at)),
+            )
         }
         Op::Monitor(_) => acts(alloc, &[REFERENCE], Gives::Nothing),
     }

@@ -1,6 +1,6 @@
 //! The types of a frame while an instruction works on it.
 
-ghost use Rattle.std.specs.Prelude.{◌≡◌, ◌<◌, ◌∷◌, ◌++◌, ◌+◌, [], drop, length, not, ◌&&◌, replicate, slice_get, slice_set, IfOk, OnOk, None};
+ghost use Rattle.std.specs.Prelude.{◌≡◌, ◌<◌, ◌∷◌, ◌++◌, ◌+◌, [], drop, length, not, ◌&&◌, replicate, slice_get, slice_set, IfOk, MatchOption, OnOk, None};
 ghost use Rattle.flow_types.specs.Tree.{superclasses};
 ghost use Rattle.instruction_table.specs.ClassTypes.{new_class, owner_of};
 ghost use Rattle.instruction_table.specs.LowestRule.{lowest};
@@ -9,7 +9,7 @@ ghost use Rattle.instruction_table.specs.Needs.{needs_rules};
 ghost use Rattle.flow_types.specs.declared.flow_type.FlowType.TheVariants as flow;
 
 use crate::begin::begin_all;
-use crate::class_types::{class_at, owner_of};
+use crate::class_types::{class_named_at, owner_of};
 use crate::lowest::lower;
 use crate::need::{is_long, is_reference};
 use crate::row::{Gives, Group, Need, Row, Slot};
@@ -137,7 +137,7 @@ fn new_type(image: &Image, method: u32, t: FlowType) -> FlowType
     ensures { result ≡ new_type (site_of image.now method) t }
 {
     match t {
-        FlowType::Fresh(at) => FlowType::Class(class_at(image, method, at)),
+        FlowType::Fresh(at) => FlowType::Class(class_named_at(image, method, at)),
         _ => FlowType::Class(owner_of(image, method)),
     }
 }
@@ -148,7 +148,7 @@ fn init_rule(image: &Image, method: u32, class: u32, t: &FlowType) -> Option<u8>
     ensures { result ≡ lowest (init_rules (site_of image.now method) class t.now) }
 {
     let fine = match t {
-        FlowType::Fresh(at) => class_at(image, method, *at) == class,
+        FlowType::Fresh(at) => class_named_at(image, method, *at) == class,
         FlowType::FreshThis => is_own_or_super(image, method, class),
         _ => {
             return if !is_reference(t) {
@@ -200,6 +200,18 @@ impl Work {
         }
     }
 
+    /// The type of what a row pushes over the operands that are there, if it pushes something.
+    fn given(&self, gives: Gives) -> Option<FlowType>
+        ensures { MatchOption result (given gives self.now.stack ≡ [])
+            (λ t. given gives self.now.stack ≡ t ∷ []) }
+    {
+        match gives {
+            Gives::Nothing => None,
+            Gives::One(t) => Some(t),
+            Gives::Part => Some(part_type(self.stack.second())),
+        }
+    }
+
     /// Takes operands and pushes what they give.
     fn act(
         &mut self,
@@ -215,12 +227,10 @@ impl Work {
             (self.new ≡ with_stack self.old
             (given gives self.old.stack ++ drop (length needs.now) self.old.stack)) }
     {
-        let second = self.stack.second();
+        let given = self.given(gives);
         let broken = self.stack.take(image, owner, needs);
-        match gives {
-            Gives::Nothing => {}
-            Gives::One(t) => self.stack.push(alloc, t)?,
-            Gives::Part => self.stack.push(alloc, part_type(second))?,
+        if let Some(t) = given {
+            self.stack.push(alloc, t)?;
         }
         Ok(broken)
     }
@@ -306,17 +316,15 @@ impl Work {
         ensures next { OnOk result
             (self.new ≡ next (site_of image.now method) (inits needs.now class gives) self.old) }
     {
-        let second = self.stack.second();
+        let given = self.given(gives);
         let operands = self.stack.take(image, owner_of(image, method), needs);
         let (object, broken) = match self.stack.pop() {
             None => (FlowType::Null, Some(rule::MISSING)),
             Some(t) => (t, init_rule(image, method, class, &t)),
         };
         self.begin(alloc, image, method, object)?;
-        match gives {
-            Gives::Nothing => {}
-            Gives::One(t) => self.stack.push(alloc, t)?,
-            Gives::Part => self.stack.push(alloc, part_type(second))?,
+        if let Some(t) = given {
+            self.stack.push(alloc, t)?;
         }
         Ok(lower(operands, broken))
     }

@@ -4,13 +4,11 @@ ghost use Rattle.std.specs.Prelude.{◌≡◌, ◌+◌, ◌++◌, ◌<◌, ◌�
 ghost use Rattle.class_names.specs.Classes.{codes_of};
 ghost use Rattle.hierarchy.specs.Hierarchy.{IsRanked};
 ghost use Rattle.link_rules.specs.Numbers.{above_rows, methods_at};
+ghost use Rattle.link_uses.specs.Items.{HaveItems};
 ghost use Rattle.link_image.specs.Classes.{class_infos};
-ghost use Rattle.link_image.specs.Fields.{base_of};
 ghost use Rattle.link_image.specs.Image.{image_of, method_number};
 ghost use Rattle.link_image.specs.Methods.{count_methods};
 ghost use Rattle.link_image.specs.Parts.{AreSmall, Fit};
-ghost use Rattle.link_image.specs.Seen.{seen_lookup};
-ghost use Rattle.link_image.specs.Targets.{known};
 
 use crate::bases::bases;
 use crate::classes::declared_infos;
@@ -72,14 +70,16 @@ fn method_number(lookup: &Lookup<'_, '_, '_>, x: &Found) -> u32
 }
 
 /// The image of a program, of which each class has a rank above those of the classes directly above
-/// it. `boot_codes` and `codes` are the decoded code of the boot classes and of the files, and `main`
-/// is the method where a run begins.
+/// it. `boot_items` and `items` are the members that the items of the boot classes and of the files
+/// lead to, `boot_codes` and `codes` their decoded code, and `main` is the method where a run begins.
 pub fn build(
     alloc: Global,
     resolver: &Resolver<'_, '_>,
     ranks: &[u32],
     arrays: &Arrays,
     literals: &Literals<'_>,
+    boot_items: List<List<Option<Found>>>,
+    items: List<List<Option<Found>>>,
     boot_codes: List<List<Option<Code>>>,
     codes: List<List<Option<Code>>>,
     main: Found,
@@ -87,6 +87,7 @@ pub fn build(
     requires small { AreSmall resolver.now }
     requires fit { Fit resolver.now arrays.now literals.now main }
     requires ranked { IsRanked (above_rows resolver.now) ranks.now }
+    requires items { HaveItems resolver.now resolver.now (boot_items ++ items) }
     requires codes { boot_codes ++ codes ≡ map codes_of resolver.now }
     ensures { IfOk result (λ image. image ≡ image_of resolver.now arrays.now literals.now main) }
 {
@@ -96,6 +97,7 @@ pub fn build(
         classes: (boot.len() + files.len() + arrays.len()) as u32,
         literals,
     };
+    let items = joined(alloc, boot_items, items)?;
     let codes = joined(alloc, boot_codes, codes)?;
     let classes = class_infos(alloc, program, ranks, arrays, &constants)?;
     let lookup = Lookup {
@@ -104,7 +106,7 @@ pub fn build(
         constants,
         infos: classes.as_slice(),
     };
-    let targets = all_targets(alloc, &lookup, codes.as_slice())?;
+    let targets = all_targets(alloc, &lookup, items.as_slice(), codes.as_slice())?;
     let number = method_number(&lookup, &main);
     let methods = method_infos(alloc, program, codes)?;
     let signs = method_signs(alloc, program, methods.as_slice())?;

@@ -3,10 +3,11 @@
 ghost use Rattle.std.specs.Prelude.{◌≡◌, IfOk, option_map};
 ghost use Rattle.class_names.specs.Texts.{class_text, text_in};
 ghost use Rattle.link_arrays.specs.ArrayClasses.{class_number};
+ghost use Rattle.link_uses.specs.Items.{AreItems};
 ghost use Rattle.link_uses.specs.TextNumbers.{AreOf};
 ghost use Rattle.link_image.specs.Kept.Items.{item_field, item_method, item_class, AreTold};
 ghost use Rattle.link_image.specs.Seen.{seen_lookup, IsFit};
-ghost use Rattle.link_image.specs.Targets.{class_of, constant_of};
+ghost use Rattle.link_image.specs.Targets.{constant_of};
 
 use crate::constants::{constant, literal_numbers};
 use crate::lookup::{Lookup, field, method, number};
@@ -14,15 +15,15 @@ use class_format::ClassFile;
 use class_names::text;
 use constant_pool::class_at;
 use jvm_base::{List, NoMemory, PoolItem};
-use link_uses::{Found, field_at, file_items, method_at};
+use link_uses::{Found, field_at, method_at};
 use program_image::Target;
 use std::alloc::Global;
 
 /// Of each item of a pool, by index, the member that it leads to; of each text the number of the
 /// class that it names as a class item, and that of the literal of which it is the content.
 #[derive(Drop)]
-pub(crate) struct Told {
-    pub(crate) found: List<Option<Found>>,
+pub(crate) struct Told<'a> {
+    pub(crate) found: &'a [Option<Found>],
     pub(crate) classes: List<Option<u32>>,
     pub(crate) literals: List<Option<usize>>,
 }
@@ -45,19 +46,21 @@ fn class_numbers(
     Ok(told)
 }
 
-impl Told {
-    /// What is told of a file's pool.
+impl<'a> Told<'a> {
+    /// What is told of a file's pool, of whose items this was found.
     pub(crate) fn new(
         alloc: Global,
         lookup: &Lookup<'_, '_, '_>,
         file: &ClassFile,
-    ) -> Result<Told, NoMemory>
-        requires { IsFit lookup.now }
+        found: &'a [Option<Found>],
+    ) -> Result<Told<'a>, NoMemory>
+        requires fit { IsFit lookup.now }
+        requires found { AreItems lookup.now.resolver.now file.now.pool found.now }
         ensures { IfOk result (λ told. AreTold (seen_lookup lookup.now) file.now told) }
     {
         let pool = file.pool.as_slice();
         Ok(Told {
-            found: file_items(alloc, lookup.resolver, file)?,
+            found,
             classes: class_numbers(alloc, lookup, pool)?,
             literals: literal_numbers(alloc, lookup.constants.literals, pool)?,
         })
@@ -68,14 +71,14 @@ impl Told {
 pub(crate) fn item_field(
     lookup: &Lookup<'_, '_, '_>,
     file: &ClassFile,
-    told: &Told,
+    told: &Told<'_>,
     item: u16,
 ) -> Option<Target>
     requires { AreTold (seen_lookup lookup.now) file.now told.now }
     ensures { result ≡ item_field (seen_lookup lookup.now) file.now item }
 {
     let pool = file.pool.as_slice();
-    let found = field_at(lookup.resolver, pool, told.found.as_slice(), item)?;
+    let found = field_at(lookup.resolver, pool, told.found, item)?;
     field(lookup, &found)
 }
 
@@ -83,14 +86,14 @@ pub(crate) fn item_field(
 pub(crate) fn item_method(
     lookup: &Lookup<'_, '_, '_>,
     file: &ClassFile,
-    told: &Told,
+    told: &Told<'_>,
     item: u16,
 ) -> Option<Target>
     requires { AreTold (seen_lookup lookup.now) file.now told.now }
     ensures { result ≡ item_method (seen_lookup lookup.now) file.now item }
 {
     let pool = file.pool.as_slice();
-    let found = method_at(lookup.resolver, pool, told.found.as_slice(), item)?;
+    let found = method_at(lookup.resolver, pool, told.found, item)?;
     method(lookup, &found)
 }
 
@@ -151,7 +154,7 @@ pub(crate) fn item_class(
     alloc: Global,
     lookup: &Lookup<'_, '_, '_>,
     file: &ClassFile,
-    told: &Told,
+    told: &Told<'_>,
     item: u16,
 ) -> Result<Option<Target>, NoMemory>
     requires fit { IsFit lookup.now }
@@ -166,7 +169,7 @@ pub(crate) fn item_class(
 pub(crate) fn item_constant(
     lookup: &Lookup<'_, '_, '_>,
     file: &ClassFile,
-    told: &Told,
+    told: &Told<'_>,
     item: u16,
 ) -> Option<Target>
     requires fit { IsFit lookup.now }

@@ -4,6 +4,7 @@ ghost use Rattle.std.specs.Prelude.{◌≡◌, ◌+◌, ◌++◌, ◌<◌, ◌^�
 ghost use Rattle.std.specs.List.{AllByRecursion, flat_map};
 ghost use Rattle.class_names.specs.Classes.{code_of, codes_of};
 ghost use Rattle.link_rules.specs.Numbers.{numbered};
+ghost use Rattle.link_uses.specs.Items.{AreItems, HaveItems};
 ghost use Rattle.link_image.specs.Kept.Items.{AreTold};
 ghost use Rattle.link_image.specs.Methods.{count_methods};
 ghost use Rattle.link_image.specs.Seen.{seen_lookup, IsFit};
@@ -17,6 +18,7 @@ use class_names::{class_text, is_array};
 use code_table::{Code, Op, Placed};
 use jvm_base::{List, NoMemory, TableItem};
 use link_rules::{ops, table};
+use link_uses::Found;
 use program_image::Target;
 use std::alloc::Global;
 
@@ -31,7 +33,7 @@ fn op_target(
     alloc: Global,
     lookup: &Lookup<'_, '_, '_>,
     file: &ClassFile,
-    told: &Told,
+    told: &Told<'_>,
     op: &Op,
 ) -> Result<Option<Target>, NoMemory>
     requires fit { IsFit lookup.now }
@@ -68,7 +70,7 @@ fn add_ops(
     targets: &mut Targets,
     lookup: &Lookup<'_, '_, '_>,
     file: &ClassFile,
-    told: &Told,
+    told: &Told<'_>,
     method: u32,
     ops: &[Placed],
 ) -> Result<(), NoMemory>
@@ -90,7 +92,7 @@ fn caught(
     alloc: Global,
     lookup: &Lookup<'_, '_, '_>,
     file: &ClassFile,
-    told: &Told,
+    told: &Told<'_>,
     entry: TableItem,
 ) -> Result<Option<Target>, NoMemory>
     requires fit { IsFit lookup.now }
@@ -111,7 +113,7 @@ fn add_table(
     targets: &mut Targets,
     lookup: &Lookup<'_, '_, '_>,
     file: &ClassFile,
-    told: &Told,
+    told: &Told<'_>,
     method: u32,
     table: &[TableItem],
 ) -> Result<(), NoMemory>
@@ -138,7 +140,7 @@ fn add_method(
     targets: &mut Targets,
     lookup: &Lookup<'_, '_, '_>,
     file: &ClassFile,
-    told: &Told,
+    told: &Told<'_>,
     number: u32,
     method: &MethodItem,
     code: &Option<Code>,
@@ -155,7 +157,8 @@ fn add_method(
     add_table(alloc, targets, lookup, file, told, number, table(method))
 }
 
-/// Adds what the methods of a class name, of which the first has a number and which have this code.
+/// Adds what the methods of a class name, of which the first has a number and which have this code;
+/// `found` are the members that its items lead to.
 #[tactic(auto, unfolding(crate::specs::Targets::class_targets))]
 fn add_class(
     alloc: Global,
@@ -163,16 +166,18 @@ fn add_class(
     lookup: &Lookup<'_, '_, '_>,
     first: u32,
     file: &ClassFile,
+    found: &[Option<Found>],
     codes: &[Option<Code>],
 ) -> Result<(), NoMemory>
     requires fit { IsFit lookup.now }
+    requires found { AreItems lookup.now.resolver.now file.now.pool found.now }
     requires codes { codes.now ≡ codes_of file.now }
     requires short { HasShortCode file.now }
     requires few { first + length file.now.methods < 2 ^ 32 }
     ensures { OnOk result
         (targets.new ≡ targets.old ++ class_targets (seen_lookup lookup.now) first file.now) }
 {
-    let told = Told::new(alloc, lookup, file)?;
+    let told = Told::new(alloc, lookup, file, found)?;
     let methods = file.methods.as_slice();
     let mut number = first;
     for i in 0..methods.len() {
@@ -183,13 +188,16 @@ fn add_class(
     Ok(())
 }
 
-/// What all methods name, which have this code.
+/// What all methods name, which have this code; `items` are the members that the items of each class
+/// lead to.
 pub(crate) fn all_targets(
     alloc: Global,
     lookup: &Lookup<'_, '_, '_>,
+    items: &[List<Option<Found>>],
     codes: &[List<Option<Code>>],
 ) -> Result<Targets, NoMemory>
     requires fit { IsFit lookup.now }
+    requires items { HaveItems lookup.now.resolver.now lookup.now.resolver.now items.now }
     requires codes { codes.now ≡ map codes_of lookup.now.resolver.now }
     requires short { AllByRecursion HasShortCode lookup.now.resolver.now }
     requires few { count_methods lookup.now.resolver.now < 2 ^ 32 }
@@ -202,14 +210,9 @@ pub(crate) fn all_targets(
         let Some(file) = program.class(c) else {
             continue;
         };
-        add_class(
-            alloc,
-            &mut targets,
-            lookup,
-            first,
-            file,
-            codes[c].as_slice(),
-        )?;
+        let found = items[c].as_slice();
+        let code = codes[c].as_slice();
+        add_class(alloc, &mut targets, lookup, first, file, found, code)?;
         first += file.methods.len() as u32;
     }
     Ok(targets)

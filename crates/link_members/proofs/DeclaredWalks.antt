@@ -16,11 +16,11 @@ use Rattle.hierarchy.proofs.Tests.{or_false, equal_to, equal_from, not_true}
 use Rattle.link_rules.specs.declared.error.LinkWhy.TheVariants.{BadOverride}
 use Rattle.link_rules.specs.Answers.{refused_if}
 use Rattle.link_rules.specs.Members.{method_name, method_desc, is_unlike, is_inherited, is_initialiser, overrides_badly, overrides_badly_at, bad_override, bad_overrides}
-use Rattle.link_rules.specs.Numbers.{numbered, supers_of}
+use Rattle.link_rules.specs.Numbers.{name_at, numbered, supers_of}
 use Rattle.link_rules.specs.Packages.{is_one_package}
 use Rattle.link_members.specs.declared.declarations.Declared.{Declared}
 use Rattle.link_members.specs.Signs.{Pair}
-use Rattle.link_members.specs.Declarations.{Table, signature_of, is_signature, declared_at, declared_one, declared_in, AreDeclared, name_at, near_at, near_to, AreNear, is_inherited_if, replaces_badly, bad_by}
+use Rattle.link_members.specs.Declarations.{Table, signature_of, is_signature, declared_at, declared_one, declared_in, AreDeclared, near_at, near_to, AreNear, is_inherited_if, replaces_badly, bad_by}
 
 -- ---- tests over items with their numbers
 

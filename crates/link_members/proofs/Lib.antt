@@ -5,5 +5,5 @@ mod DeclaredLaws
 mod NearLaws
 mod DeclaredWalks
 pub mod ToldLaws
-mod SignLaws
+pub mod SignLaws
 mod PackageLaws

@@ -18,8 +18,7 @@ use Rattle.class_names.specs.Texts.{text_in}
 use Rattle.code_table.proofs.Firsts.{position_none}
 use Rattle.link_rules.specs.Numbers.{numbered}
 use Rattle.link_members.specs.Declarations.{Table, signature_of, is_signature, methods_at, declared_one, declared_in, signed_one, signed_in, AreDeclared}
-use Rattle.link_members.specs.Near.{is_number}
-use Rattle.link_members.specs.Signs.{Pair, Sign, item_texts, file_texts, text_names, signed, sign_of, is_sign, is_signed}
+use Rattle.link_members.specs.Signs.{is_number, Pair, Sign, item_texts, file_texts, text_names, signed, sign_of, is_sign, is_signed}
 use Rattle.link_members.proofs.DeclaredLaws.{one_pair, one_sign, true_same}
 
 -- ---- texts that are added one after the other

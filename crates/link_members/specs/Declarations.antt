@@ -1,6 +1,6 @@
 -- The methods of all classes by name and descriptor, and superclasses by package, as the check of
 -- overriding keeps them.
-use Rattle.std.specs.Prelude.{◌==◌, ◌≡◌, ◌<◌, ℕ, Bool, false, ◌&&◌, ◌||◌, not, List, [], ◌∷◌, ◌++◌, length, Option, Some, None, slice_get, slice_index_or, if◌then◌else◌}
+use Rattle.std.specs.Prelude.{◌==◌, ◌≡◌, ◌<◌, ℕ, Bool, false, ◌&&◌, ◌||◌, not, List, [], ◌∷◌, ◌++◌, length, Option, Some, None, slice_index_or, if◌then◌else◌}
 use Rattle.std.specs.List.{flat_map, list_any}
 use Rattle.std.specs.Map.{lookup}
 use Rattle.jvm_base.specs.Words.{from}
@@ -14,7 +14,7 @@ use Rattle.link_rules.specs.declared.error.LinkErr.{LinkErr}
 use Rattle.link_rules.specs.declared.error.LinkWhy.TheVariants.{BadOverride}
 use Rattle.link_rules.specs.Answers.{refused_if}
 use Rattle.link_rules.specs.Members.{method_name, method_desc, is_unlike, is_initialiser}
-use Rattle.link_rules.specs.Numbers.{numbered, supers_of}
+use Rattle.link_rules.specs.Numbers.{name_at, numbered, supers_of}
 use Rattle.link_rules.specs.Packages.{is_one_package}
 use Rattle.link_members.specs.declared.declarations.Declared.{Declared}
 use Rattle.link_members.specs.Signs.{Pair, Sign, sign_of, is_sign, is_signed}
@@ -73,10 +73,6 @@ Gains old new more = (k : Sign) → methods_at new k ≡ methods_at old k ++ mor
 abbrev pub IsPut : Table → Table → Sign → List Declared → Type 0
 IsPut old new key methods =
     (k : Sign) → methods_at new k ≡ (if is_sign key k then methods else methods_at old k)
-
--- the name of the class of a number
-abbrev pub name_at : List ClassFile → ℕ → List ℕ
-name_at all k = from [] this_name (slice_get all k)
 
 -- what a table has for a class
 abbrev pub near_at : List (Option Bool) → ℕ → Option Bool

@@ -31,6 +31,10 @@ text_names all = add_names [] ([] ∷ flat_map file_texts all)
 abbrev pub name_number : List (List ℕ) → List ℕ → Option ℕ
 name_number names text = position (is_name text) names
 
+-- the number is there, and is that one
+abbrev pub is_number : Option ℕ → ℕ → Bool
+is_number number n = from false (λ k. nat_eq k n) number
+
 -- both numbers, where there are both
 abbrev pub signed : Option ℕ → Option ℕ → Option Sign
 signed name desc = option_and_then (λ n. option_map (λ d. (n, d)) desc) name

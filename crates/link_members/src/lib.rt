@@ -14,5 +14,6 @@ mod signs;
 pub use declared::check_declared;
 pub use loops::check_loops;
 pub use overrides::check_overrides;
-pub use packages::{is_one_package, package};
+pub use package_numbers::{OwnPackage, Packages, is_near, own_package};
+pub use packages::package;
 pub use row_table::{Step, rows};

@@ -2,9 +2,10 @@
 
 ghost use Rattle.std.specs.Prelude.{◌≡◌, ◌<◌, ◌^◌, length, IfOk};
 ghost use Rattle.class_names.specs.Classes.{this_name};
-ghost use Rattle.link_rules.specs.Packages.{package_of, is_one_package};
-ghost use Rattle.link_members.specs.Declarations.{name_at};
-ghost use Rattle.link_members.specs.Near.{AreNumbered, ArePackages, IsOwn, is_number};
+ghost use Rattle.link_rules.specs.Numbers.{name_at};
+ghost use Rattle.link_rules.specs.Packages.{is_one_package};
+ghost use Rattle.link_members.specs.Near.{AreNumbered, ArePackages, IsOwn};
+ghost use Rattle.link_members.specs.Signs.{is_number};
 
 use crate::packages::{is_one_package, package};
 use class_format::ClassFile;
@@ -15,15 +16,21 @@ use std::alloc::Global;
 
 /// The packages of all classes, and the number of each class's package among them.
 #[derive(Drop)]
-pub(crate) struct Packages<'a> {
+pub struct Packages<'a> {
+    /// The packages, each once.
     pub names: Names<'a>,
+    /// For each class the place of its package among them.
     pub numbers: List<Option<usize>>,
 }
 
-/// The number of the package of a class, and those of the packages of all classes.
+/// The package of a class, its number, and those of the packages of all classes.
 #[derive(Clone, Copy)]
-pub(crate) struct OwnPackage<'a> {
+pub struct OwnPackage<'a> {
+    /// The class's name up to the last `/`.
+    pub name: &'a [u16],
+    /// Its number among the packages of a program.
     pub number: Option<usize>,
+    /// The number of each class's package.
     pub numbers: &'a [Option<usize>],
 }
 
@@ -86,17 +93,19 @@ impl<'a> Packages<'a> {
 }
 
 /// The package of a class among those of a program.
-pub(crate) fn own_package<'a>(
+pub fn own_package<'a>(
     program: &Program,
     packages: &'a Packages<'_>,
-    f: &ClassFile,
+    f: &'a ClassFile,
 ) -> OwnPackage<'a>
     requires { ArePackages program.now packages.now }
     ensures { IsOwn program.now f.now result }
 {
     let _program = program;
+    let name = package(this_name(f));
     OwnPackage {
-        number: packages.names.number(package(this_name(f))),
+        name,
+        number: packages.names.number(name),
         numbers: packages.numbers.as_slice(),
     }
 }
@@ -111,7 +120,7 @@ fn is_number(number: Option<usize>, other: usize) -> bool
 }
 
 /// Whether the class of a number is in the package of `f`.
-pub(crate) fn is_near(program: &Program, f: &ClassFile, own: &OwnPackage<'_>, number: u32) -> bool
+pub fn is_near(program: &Program, f: &ClassFile, own: &OwnPackage<'_>, number: u32) -> bool
     requires { IsOwn program.now f.now own.now }
     ensures { result ≡ is_one_package (this_name f.now) (name_at program.now number) }
 {

@@ -28,7 +28,7 @@ pub fn package(name: &[u16]) -> &[u16]
 }
 
 /// Whether two classes are in one package: whether their names agree up to the last `/`.
-pub fn is_one_package(name: &[u16], other: &[u16]) -> bool
+pub(crate) fn is_one_package(name: &[u16], other: &[u16]) -> bool
     ensures { result ≡ is_one_package name.now other.now }
 {
     package(name) == package(other)

@@ -30,6 +30,10 @@ number_of all name = position (is_name name) (map this_name all)
 abbrev pub holder_of : List ClassFile → List ℕ → ℕ
 holder_of all text = if is_array text then 0 else from 0 (λ k. k) (number_of all text)
 
+-- the name of the class of a number
+abbrev pub name_at : List ClassFile → ℕ → List ℕ
+name_at all k = from [] this_name (slice_get all k)
+
 -- the flags of the class of a number
 abbrev pub flags_at : List ClassFile → ℕ → ℕ
 flags_at all k = from 0 (λ f. f.flags) (slice_get all k)

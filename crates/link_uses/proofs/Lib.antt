@@ -4,5 +4,4 @@ pub mod OwnedBuilt
 pub mod ItemLaws
 pub mod SignLaws
 pub mod TextLaws
-pub mod NearLaws
 pub mod AddedLaws

@@ -1,10 +1,8 @@
 -- What is kept of declared members is what look-ups find.
-use Rattle.std.proofs.Common.{◌≡◌, ℕ, ◌+◌, Bool, true, false, cond, nat_eq, List, [], ◌∷◌, map, get_or, Option, Some, None, position, slice_get, refl, sym, ap, ◌∙◌, arith}
+use Rattle.std.proofs.Common.{◌≡◌, ℕ, ◌+◌, Bool, true, false, cond, List, [], ◌∷◌, map, Option, Some, None, position, slice_get, refl, sym, ap, ◌∙◌}
 use Rattle.std.specs.Prelude.{◌&&◌, ◌||◌, option_map, option_and_then}
 use Rattle.std.specs.List.{list_any, position_from, AllByRecursion}
-use Rattle.std.specs.Cmp.Lexicographic.{same_text, nat_list_eq_equiv}
-use Rattle.std.proofs.lemmas.Bool.Decides.{nat_tests}
-use Rattle.std.proofs.lemmas.List.Quantifiers.{position-Some}
+use Rattle.std.specs.Cmp.Lexicographic.{same_text}
 use Rattle.std.proofs.lemmas.Iterator.Adapters.{position_from-zero}
 use Rattle.jvm_base.specs.Words.{from}
 use Rattle.hierarchy.specs.Walks.{first_some, or_else}
@@ -14,48 +12,14 @@ use Rattle.class_format.specs.declared.member_kind.MemberKind.TheVariants.{Field
 use Rattle.class_names.specs.Known.{is_name, is_known}
 use Rattle.class_names.specs.Texts.{Member}
 use Rattle.code_table.proofs.Firsts.{position_none, none_position}
+use Rattle.link_members.proofs.SignLaws.{number_is}
 use Rattle.link_uses.specs.declared.lookup.Found.{Found}
 use Rattle.link_uses.specs.declared.owned.Owned.{Owned}
 use Rattle.link_uses.specs.Lookups.{is_field_of, is_method_of, own_field, own_method}
-use Rattle.link_uses.specs.Owned.{Signature, Sign, field_signature, method_signature, signatures, signatures_at, has_number, has_sign, sign_of, AreSeen, ArePlaces, IsOwned, Key, found_at}
+use Rattle.link_members.specs.Signs.{Sign}
+use Rattle.link_uses.specs.Owned.{Signature, field_signature, method_signature, signatures, signatures_at, has_number, has_sign, sign_of, AreSeen, ArePlaces, IsOwned, Key, found_at}
 
 -- ---- numbers of texts
-
-one_name : (a : List ℕ) → is_name a a ≡ true
-one_name a = nat_list_eq_equiv.refl a
-
-same_true : (a b : ℕ) → a ≡ b → nat_eq a b ≡ true
-same_true a b e = grind (arith, nat_tests)
-
-true_same : (a b : ℕ) → nat_eq a b ≡ true → a ≡ b
-true_same a b e = grind (arith, nat_tests)
-
--- two texts of one number are one
-one_text : (names : List (List ℕ)) (a b : List ℕ) (i : ℕ) → position (is_name a) names ≡ Some i → position (is_name b) names ≡ Some i → a ≡ b
-one_text names a b i ea eb =
-    let pa : is_name a (get_or names i a) ≡ true = (position-Some (is_name a) names i a ea).1 in
-    let pb : is_name b (get_or names i a) ≡ true = (position-Some (is_name b) names i a eb).1 in
-    same_text a (get_or names i a) (sym pa) ∙ sym (same_text b (get_or names i a) (sym pb))
-
--- a text has another's number exactly where the two are one
-pub number_is : (names : List (List ℕ)) (asked text : List ℕ) (n : ℕ) → position (is_name asked) names ≡ Some n → has_number names text n ≡ is_name asked text
-number_is names asked text n at = by (is_name asked text) refl
-  where
-    no : (o : Option ℕ) → position (is_name text) names ≡ o → is_name asked text ≡ false → from false (λ k. nat_eq k n) o ≡ false
-    no None e other = refl
-    no (Some k) e other = unlike (nat_eq k n) refl
-      where
-        unlike : (b : Bool) → nat_eq k n ≡ b → b ≡ false
-        unlike false h = refl
-        unlike true h =
-            let s : asked ≡ text = one_text names asked text n at (e ∙ ap (λ z. Some z) (true_same k n h)) in
-            sym (one_name asked) ∙ ap (is_name asked) s ∙ other
-
-    by : (b : Bool) → is_name asked text ≡ b → has_number names text n ≡ b
-    by true e =
-        let s : asked ≡ text = same_text asked text (sym e) in
-        ap (from false (λ k. nat_eq k n)) (ap (λ t. position (is_name t) names) (sym s) ∙ at) ∙ same_true n n refl
-    by false e = no (position (is_name text) names) refl e
 
 -- none passes where no place is found
 none_any : {A : Type 0} (p : A → Bool) (xs : List A) → AllByRecursion (λ x. p x ≡ false) xs → list_any p xs ≡ false

@@ -3,9 +3,16 @@ use Rattle.std.proofs.Common.{◌≡◌, ℕ, ◌<◌, List, [], ◌∷◌, ◌+
 use Rattle.std.specs.List.{flat_map}
 use Rattle.std.proofs.lemmas.Bool.{cases_lt}
 use Rattle.std.proofs.Math.ListN.{get_or-eq_default}
-use Rattle.hierarchy.specs.Hierarchy.{row_of, IsRanked}
+use Rattle.hierarchy.specs.Hierarchy.{row_of, IsRanked, IsWithin}
+use Rattle.hierarchy.specs.Joined.{AreJoined}
 use Rattle.hierarchy.specs.Walks.{all_from, first_some, or_else, IsWalked}
+use Rattle.hierarchy.proofs.Joining.{walked_in}
 use Rattle.hierarchy.proofs.WalkLaws.{walk_unfolds, first_new}
+use Rattle.class_format.specs.declared.class.ClassFile.{ClassFile}
+use Rattle.link_members.specs.declared.row_table.Step.TheVariants.{Interfaces}
+use Rattle.link_members.proofs.RowLaws.{rows_within}
+use Rattle.link_rules.specs.Numbers.{interface_rows}
+use Rattle.link_uses.specs.Tables.{AreTables}
 
 -- the first answer over a row of the table is the first over the walk
 pub first_walked : {A : Type 0} (f : ℕ → Option A) (rows table : List (List ℕ)) (c : ℕ) → IsWalked rows table → c < length rows → first_some f (row_of table c) ≡ first_some f (all_from rows c)
@@ -71,13 +78,22 @@ pub first_same : {A : Type 0} (f g : ℕ → Option A) (xs : List ℕ) → ((k :
 first_same f g [] h = refl
 first_same f g (x ∷ xs) h = ap (λ o. or_else o (first_some f xs)) (h x) ∙ ap (or_else (g x)) (first_same f g xs h)
 
--- the answer of a class: over its walk over superclasses, then over the interfaces of each
-pub class_walked : {A : Type 0} (f kept : ℕ → Option A) (super_rows interface_rows supers interfaces : List (List ℕ)) (ranks : List ℕ) (c : ℕ) → ((k : ℕ) → kept k ≡ f k) → IsWalked super_rows supers → IsWalked interface_rows interfaces → IsRanked interface_rows ranks → c < length super_rows → or_else (first_some kept (row_of supers c)) (first_some (λ k. first_some kept (row_of interfaces k)) (row_of supers c)) ≡ or_else (first_some f (all_from super_rows c)) (first_some f (flat_map (λ k. flat_map (all_from interface_rows) (row_of interface_rows k)) (all_from super_rows c)))
-class_walked f kept super_rows interface_rows supers interfaces ranks c same w v r inside =
+-- the first answer over the joined rows is the first over the rows one after the other
+first_joined : {A : Type 0} (f : ℕ → Option A) (lists table joined : List (List ℕ)) (c : ℕ) → AreJoined lists table joined → c < length lists → first_some f (row_of joined c) ≡ first_some (λ k. first_some f (row_of table k)) (row_of lists c)
+first_joined f lists table joined c j h =
+    ap (first_some f) (j.each c h) ∙ first_new f [] (flat_map (row_of table) (row_of lists c)) ∙ first_flat f (row_of table) (row_of lists c)
+
+-- the answer of a class: over its walk over superclasses, then over the interfaces of them all
+pub class_walked : {A : Type 0} (f kept : ℕ → Option A) (super_rows interface_rows supers interfaces met : List (List ℕ)) (ranks : List ℕ) (c : ℕ) → ((k : ℕ) → kept k ≡ f k) → IsWalked super_rows supers → IsWalked interface_rows interfaces → AreJoined supers interfaces met → IsRanked interface_rows ranks → c < length super_rows → or_else (first_some kept (row_of supers c)) (first_some kept (row_of met c)) ≡ or_else (first_some f (all_from super_rows c)) (first_some f (flat_map (λ k. flat_map (all_from interface_rows) (row_of interface_rows k)) (all_from super_rows c)))
+class_walked f kept super_rows interface_rows supers interfaces met ranks c same w v j r inside =
     let h : ℕ → Option _ = λ k. first_some f (row_of interfaces k) in
-    let g : ℕ → Option _ = λ k. first_some kept (row_of interfaces k) in
     let row = row_of supers c in
+    let there : c < length supers = (let l = w.same in omega arith) in
     let a : first_some kept row ≡ first_some f (all_from super_rows c) = first_same kept f row same ∙ first_walked f super_rows supers c w inside in
-    let b : first_some g row ≡ first_some h (all_from super_rows c) = first_same g h row (λ k. first_same kept f (row_of interfaces k) same) ∙ first_walked h super_rows supers c w inside in
-    ap (λ o. or_else o (first_some g row)) a ∙ ap (or_else (first_some f (all_from super_rows c))) b
+    let b : first_some kept (row_of met c) ≡ first_some h (all_from super_rows c) = first_same kept f (row_of met c) same ∙ first_joined f supers interfaces met c j there ∙ first_walked h super_rows supers c w inside in
+    ap (λ o. or_else o (first_some kept (row_of met c))) a ∙ ap (or_else (first_some f (all_from super_rows c))) b
     ∙ or_beyond (first_some f (all_from super_rows c)) _ _ (beyond_classes f interface_rows interfaces ranks (all_from super_rows c) v r)
+
+-- the interfaces in the walks have walks themselves
+pub interfaces_within : (all : List ClassFile) (supers interfaces fields : List (List ℕ)) → AreTables all supers interfaces fields → IsWithin interfaces
+interfaces_within all supers interfaces fields t = walked_in (interface_rows all) interfaces (rows_within Interfaces all) t.interface_walks

@@ -1,5 +1,5 @@
 -- The members that the items of a file's pool lead to, as a table keeps them.
-use Rattle.std.specs.Prelude.{◌≡◌, ℕ, Bool, true, false, List, Option, Some, None, slice_get}
+use Rattle.std.specs.Prelude.{◌≡◌, ◌<◌, ℕ, Bool, true, false, List, length, Option, Some, None, slice_get, slice_index_or}
 use Rattle.jvm_base.specs.declared.pool.PoolItem.{PoolItem}
 use Rattle.jvm_base.specs.declared.pool.PoolItem.TheVariants.{Field, Method, InterfaceMethod}
 use Rattle.jvm_base.specs.Words.{from}
@@ -22,6 +22,11 @@ found_at_index all pool i = from None (found_of all pool) (slice_get pool i)
 -- what a table has at an index is what the item there leads to
 abbrev pub AreItems : List ClassFile → List PoolItem → List (Option Found) → Type 0
 AreItems all pool found = (i : ℕ) (x : Option Found) → slice_get found i ≡ Some x → x ≡ found_at_index all pool i
+
+-- what tables have for each of some files' pools
+pub record HaveItems (all files : List ClassFile) (tables : List (List (Option Found))) : Type 0 where
+  pub same : length tables ≡ length files
+  pub each : (i : ℕ) (f : ClassFile) (found : List (Option Found)) → i < length files → AreItems all (slice_index_or files i f).pool (slice_index_or tables i found)
 
 -- the item is a field, or a method
 abbrev pub is_field_item : Option PoolItem → Bool

@@ -6,5 +6,4 @@ pub mod Walk
 pub mod TextNumbers
 pub mod Items
 pub mod Told
-pub mod Near
 pub mod Kept

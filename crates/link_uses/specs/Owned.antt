@@ -1,5 +1,5 @@
 -- The members that the classes of a program declare, by class and by the numbers of texts.
-use Rattle.std.specs.Prelude.{◌≡◌, ℕ, Bool, true, false, ◌&&◌, nat_eq, List, [], ◌∷◌, ◌++◌, map, Option, position, slice_get, option_map, option_and_then, if◌then◌else◌}
+use Rattle.std.specs.Prelude.{◌≡◌, ℕ, Bool, true, ◌&&◌, nat_eq, List, [], ◌∷◌, ◌++◌, map, Option, position, slice_get, option_map, option_and_then, if◌then◌else◌}
 use Rattle.std.specs.List.{flat_map, AllByRecursion}
 use Rattle.std.specs.declared.cmp.Ordering.{Ordering}
 use Rattle.std.specs.Ordering.{ordering_then, nat_cmp}
@@ -13,19 +13,16 @@ use Rattle.class_format.specs.declared.class.MethodItem.{MethodItem}
 use Rattle.class_format.specs.declared.member_kind.MemberKind.{MemberKind}
 use Rattle.class_format.specs.declared.member_kind.MemberKind.TheVariants.{Field, Method}
 use Rattle.class_format.specs.Flags.{is_interface}
-use Rattle.class_names.specs.Known.{is_name, is_known, add_names}
+use Rattle.class_names.specs.Known.{is_known, add_names}
 use Rattle.class_names.specs.Texts.{Member, text_in}
 use Rattle.link_rules.specs.Numbers.{flags_at}
+use Rattle.link_members.specs.Signs.{Sign, name_number, is_number, signed}
 use Rattle.link_uses.specs.declared.lookup.Found.{Found}
 use Rattle.link_uses.specs.declared.owned.Owned.{Owned}
 
 -- a name and a descriptor
 abbrev pub Signature : Type 0
 Signature = List ℕ × List ℕ
-
--- the numbers of a name and of a descriptor
-abbrev pub Sign : Type 0
-Sign = ℕ × ℕ
 
 -- a class and a sign
 abbrev pub Key : Type 0
@@ -70,14 +67,6 @@ class_texts g = member_texts Field g ++ member_texts Method g
 unfoldable pub member_names : List ClassFile → List (List ℕ)
 member_names all = add_names [] (flat_map class_texts all)
 
--- the number of a text, where it was seen
-abbrev pub name_number : List (List ℕ) → List ℕ → Option ℕ
-name_number names text = position (is_name text) names
-
--- the number is there, and is that one
-abbrev pub is_number : Option ℕ → ℕ → Bool
-is_number number n = from false (λ k. nat_eq k n) number
-
 -- the text has the number
 abbrev pub has_number : List (List ℕ) → List ℕ → ℕ → Bool
 has_number names text n = is_number (name_number names text) n
@@ -89,10 +78,6 @@ has_sign names sign s = has_number names s.0 sign.0 && has_number names s.1 sign
 -- the member of a class has the key
 abbrev pub has_key : List (List ℕ) → ℕ → Key → Signature → Bool
 has_key names class key s = nat_eq class key.0 && has_sign names key.1 s
-
--- both numbers, where there are both
-abbrev pub signed : Option ℕ → Option ℕ → Option Sign
-signed name desc = option_and_then (λ n. option_map (λ d. (n, d)) desc) name
 
 -- the numbers of a member's name and descriptor, where both were seen
 abbrev pub sign_of : List (List ℕ) → Member → Option Sign
@@ -123,10 +108,10 @@ found_at entries sign k = option_map (λ i. record { class = k; place = i }) (pl
 abbrev pub signed_field : List (Key × ℕ) → List (List ℕ) → Option Sign → ℕ → Option Found
 signed_field entries fields sign c = option_and_then (λ s. first_some (found_at entries s) (row_of fields c)) sign
 
--- a method of a class: along its superclasses, then along the interfaces of each
+-- a method of a class: along its superclasses, then along the interfaces of them all
 abbrev pub signed_class_method : List (Key × ℕ) → List (List ℕ) → List (List ℕ) → Option Sign → ℕ → Option Found
-signed_class_method entries supers interfaces sign c =
-    option_and_then (λ s. or_else (first_some (found_at entries s) (row_of supers c)) (first_some (λ k. first_some (found_at entries s) (row_of interfaces k)) (row_of supers c))) sign
+signed_class_method entries supers met sign c =
+    option_and_then (λ s. or_else (first_some (found_at entries s) (row_of supers c)) (first_some (found_at entries s) (row_of met c))) sign
 
 -- a method of an interface: along its superinterfaces, then in Object
 abbrev pub signed_interface_method : List (Key × ℕ) → List (List ℕ) → Option Sign → ℕ → Option Found
@@ -134,6 +119,6 @@ signed_interface_method entries interfaces sign c =
     option_and_then (λ s. or_else (first_some (found_at entries s) (row_of interfaces c)) (found_at entries s 0)) sign
 
 -- a method of a class or an interface
-abbrev pub signed_method : List ClassFile → List (Key × ℕ) → List (List ℕ) → List (List ℕ) → Option Sign → ℕ → Option Found
-signed_method all entries supers interfaces sign c =
-    if is_interface (flags_at all c) then signed_interface_method entries interfaces sign c else signed_class_method entries supers interfaces sign c
+abbrev pub signed_method : List ClassFile → List (Key × ℕ) → List (List ℕ) → List (List ℕ) → List (List ℕ) → Option Sign → ℕ → Option Found
+signed_method all entries supers interfaces met sign c =
+    if is_interface (flags_at all c) then signed_interface_method entries interfaces sign c else signed_class_method entries supers met sign c

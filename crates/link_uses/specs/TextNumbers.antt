@@ -5,7 +5,8 @@ use Rattle.jvm_base.specs.declared.pool.PoolItem.TheVariants.{NameAndKind}
 use Rattle.class_format.specs.declared.class.ClassFile.{ClassFile}
 use Rattle.class_names.specs.Texts.{text_in}
 use Rattle.link_rules.specs.Numbers.{holder_of}
-use Rattle.link_uses.specs.Owned.{name_number, member_names}
+use Rattle.link_members.specs.Signs.{name_number}
+use Rattle.link_uses.specs.Owned.{member_names}
 use Rattle.link_uses.specs.declared.text_numbers.TextNumbers.{TextNumbers}
 
 -- the indices of the texts of a name and descriptor

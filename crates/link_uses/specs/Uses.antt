@@ -1,5 +1,5 @@
 -- Rules on what instructions and exception tables use.
-use Rattle.std.specs.Prelude.{ℕ, Bool, true, false, not, ◌&&◌, ◌||◌, ◌==◌, List, [], ◌++◌, slice_get, if◌then◌else◌}
+use Rattle.std.specs.Prelude.{ℕ, Bool, true, false, not, ◌&&◌, ◌||◌, ◌==◌, List, [], ◌++◌, if◌then◌else◌}
 use Rattle.std.specs.List.{flat_map}
 use Rattle.std.specs.Option.{is_none}
 use Rattle.std.proofs.Math.Bool.{beq}
@@ -23,7 +23,7 @@ use Rattle.link_rules.specs.Answers.{refused_if}
 use Rattle.link_rules.specs.Classes.{names_interface}
 use Rattle.link_rules.specs.Descriptors.{key_text}
 use Rattle.link_uses.specs.Lookups.{found_field, found_method, field_flags, method_flags}
-use Rattle.link_rules.specs.Numbers.{flags_of, supers_of}
+use Rattle.link_rules.specs.Numbers.{name_at, flags_of, supers_of}
 use Rattle.link_rules.specs.Packages.{is_one_package}
 
 -- ---- no-field, no-method: a member that an instruction uses isn't found
@@ -121,10 +121,6 @@ no_access_class all f name =
 -- the class of a class item, for an array that of its elements
 unfoldable pub no_access_item : List ClassFile → ClassFile → List ℕ → List LinkErr
 no_access_item all f text = flat_map (no_access_class all f) (named_by text)
-
--- the name of the class of a number
-abbrev pub name_at : List ClassFile → ℕ → List ℕ
-name_at all k = from [] this_name (slice_get all k)
 
 -- a member of these flags that the class k declares isn't accessible from f: a private one is from
 -- its class alone, a protected one from its package and from classes below, one without an access

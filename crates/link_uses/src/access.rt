@@ -13,22 +13,21 @@ ghost use Rattle.class_names.specs.Seen.{seen_member};
 ghost use Rattle.link_rules.specs.Answers.{IsAnswer};
 ghost use Rattle.link_rules.specs.Numbers.{numbered, flags_of};
 ghost use Rattle.link_rules.specs.Packages.{package_of};
-ghost use Rattle.link_uses.specs.Items.{AreItems};
+ghost use Rattle.link_members.specs.Near.{ArePackages, IsOwn};
+ghost use Rattle.link_uses.specs.Items.{AreItems, HaveItems};
 ghost use Rattle.link_rules.specs.Marks.{AreRight};
-ghost use Rattle.link_uses.specs.Near.{ArePackages, IsNear};
 ghost use Rattle.link_uses.specs.Lookups.{found_field, found_method};
 ghost use Rattle.link_uses.specs.Uses.{no_access_class, no_access_item, is_hidden, is_foreign_write, is_hidden_field, no_access_field, is_hidden_method, no_access_method, no_access_op, no_access_placed, no_access_entry, no_access_in, no_access};
 
 use crate::flags::{field_flags, method_flags};
-use crate::items::{field_at, file_items, method_at};
+use crate::items::{field_at, method_at};
 use crate::lookup::{Found, Resolver};
-use crate::packages::{Near, Packages, is_near, near_to};
 use class_format::{ClassFile, FINAL, MethodItem, PRIVATE, PROTECTED, PUBLIC, has_flag};
 use class_names::{Called, class_text, desc, is_array, member, text};
 use code_table::opcode::{PUTFIELD, PUTSTATIC};
 use code_table::{Code, Op, Placed};
 use jvm_base::{Desc, Elem, List, NoMemory, TableItem};
-use link_members::package;
+use link_members::{OwnPackage, Packages, is_near, own_package, package};
 use link_rules::{
     LinkErr, LinkWhy, Program, ops, refuse_class_if, refuse_member_if, table, told_class,
     told_owner,
@@ -231,12 +230,12 @@ fn is_hidden(
     resolver: &Resolver,
     number: u32,
     file: &ClassFile,
-    near: &Near<'_>,
+    near: &OwnPackage<'_>,
     flags: u16,
     owner: u32,
 ) -> bool
     requires inside { number < length resolver.now }
-    requires near { IsNear resolver.now file.now near.now }
+    requires near { IsOwn resolver.now file.now near.now }
     ensures { result ≡ is_hidden resolver.now number file.now flags owner }
 {
     if has_flag(flags, PRIVATE) {
@@ -261,14 +260,14 @@ fn is_hidden_field(
     resolver: &Resolver,
     number: u32,
     file: &ClassFile,
-    near: &Near<'_>,
+    near: &OwnPackage<'_>,
     op: u8,
     m: &Called,
     found: Option<Found>,
 ) -> bool
     requires inside { number < length resolver.now }
     requires found { found ≡ found_field resolver.now (seen_member m.now) }
-    requires near { IsNear resolver.now file.now near.now }
+    requires near { IsOwn resolver.now file.now near.now }
     ensures { result ≡ is_hidden_field resolver.now number file.now op (seen_member m.now) }
 {
     match found {
@@ -285,13 +284,13 @@ fn is_hidden_method(
     resolver: &Resolver,
     number: u32,
     file: &ClassFile,
-    near: &Near<'_>,
+    near: &OwnPackage<'_>,
     m: &Called,
     found: Option<Found>,
 ) -> bool
     requires inside { number < length resolver.now }
     requires found { found ≡ found_method resolver.now (seen_member m.now) }
-    requires near { IsNear resolver.now file.now near.now }
+    requires near { IsOwn resolver.now file.now near.now }
     ensures { result ≡ is_hidden_method resolver.now number file.now (seen_member m.now) }
 {
     match found {
@@ -309,14 +308,14 @@ fn check_field(
     resolver: &Resolver,
     number: u32,
     file: &ClassFile,
-    near: &Near<'_>,
+    near: &OwnPackage<'_>,
     op: u8,
     m: &Called,
     found: Option<Found>,
 ) -> Result<(), LinkErr>
     requires inside { number < length resolver.now }
     requires found { found ≡ found_field resolver.now (seen_member m.now) }
-    requires near { IsNear resolver.now file.now near.now }
+    requires near { IsOwn resolver.now file.now near.now }
     ensures { IsAnswer (no_access_field resolver.now number file.now op (seen_member m.now)) result }
 {
     let is_hidden = is_hidden_field(resolver, number, file, near, op, m, found);
@@ -329,13 +328,13 @@ fn check_call(
     resolver: &Resolver,
     number: u32,
     file: &ClassFile,
-    near: &Near<'_>,
+    near: &OwnPackage<'_>,
     m: &Called,
     found: Option<Found>,
 ) -> Result<(), LinkErr>
     requires inside { number < length resolver.now }
     requires found { found ≡ found_method resolver.now (seen_member m.now) }
-    requires near { IsNear resolver.now file.now near.now }
+    requires near { IsOwn resolver.now file.now near.now }
     ensures { IsAnswer (no_access_method resolver.now number file.now (seen_member m.now)) result }
 {
     let is_hidden = is_hidden_method(resolver, number, file, near, m, found);
@@ -349,21 +348,21 @@ fn check_field_item(
     resolver: &Resolver,
     number: u32,
     file: &ClassFile,
-    near: &Near<'_>,
+    near: &OwnPackage<'_>,
     items: &[Option<Found>],
     allowed: &[bool],
     op: u8,
     item: u16,
 ) -> Result<(), LinkErr>
     requires inside { number < length resolver.now }
-    requires near { IsNear resolver.now file.now near.now }
+    requires near { IsOwn resolver.now file.now near.now }
     requires items { AreItems resolver.now file.now.pool items.now }
     requires allowed { AreRight (no_access_item resolver.now file.now) file.now.pool allowed.now }
     ensures { IsAnswer (no_access_item resolver.now file.now (member_in file.now.pool item).class
         ++ no_access_field resolver.now number file.now op (member_in file.now.pool item)) result }
 {
     let pool = file.pool.as_slice();
-    check_owner(alloc, resolver.program(), file, near.own, allowed, item)?;
+    check_owner(alloc, resolver.program(), file, near.name, allowed, item)?;
     let found = field_at(resolver, pool, items, item);
     check_field(
         alloc,
@@ -384,20 +383,20 @@ fn check_method_item(
     resolver: &Resolver,
     number: u32,
     file: &ClassFile,
-    near: &Near<'_>,
+    near: &OwnPackage<'_>,
     items: &[Option<Found>],
     allowed: &[bool],
     item: u16,
 ) -> Result<(), LinkErr>
     requires inside { number < length resolver.now }
-    requires near { IsNear resolver.now file.now near.now }
+    requires near { IsOwn resolver.now file.now near.now }
     requires items { AreItems resolver.now file.now.pool items.now }
     requires allowed { AreRight (no_access_item resolver.now file.now) file.now.pool allowed.now }
     ensures { IsAnswer (no_access_item resolver.now file.now (member_in file.now.pool item).class
         ++ no_access_method resolver.now number file.now (member_in file.now.pool item)) result }
 {
     let pool = file.pool.as_slice();
-    check_owner(alloc, resolver.program(), file, near.own, allowed, item)?;
+    check_owner(alloc, resolver.program(), file, near.name, allowed, item)?;
     let found = method_at(resolver, pool, items, item);
     check_call(
         alloc,
@@ -416,7 +415,7 @@ fn check_op(
     resolver: &Resolver,
     number: u32,
     file: &ClassFile,
-    near: &Near<'_>,
+    near: &OwnPackage<'_>,
     items: &[Option<Found>],
     allowed: &[bool],
     op: &Op,
@@ -424,7 +423,7 @@ fn check_op(
     requires inside { number < length resolver.now }
     requires items { AreItems resolver.now file.now.pool items.now }
     requires allowed { AreRight (no_access_item resolver.now file.now) file.now.pool allowed.now }
-    requires near { IsNear resolver.now file.now near.now }
+    requires near { IsOwn resolver.now file.now near.now }
     ensures { IsAnswer (no_access_op resolver.now number file.now op.now) result }
 {
     match op {
@@ -441,7 +440,7 @@ fn check_op(
         | Op::Cast { item, .. }
         | Op::MultiNewArray { item, .. } => {
             let program = resolver.program();
-            check_item(alloc, program, file, near.own, allowed, *item)
+            check_item(alloc, program, file, near.name, allowed, *item)
         }
         _ => Ok(()),
     }
@@ -453,7 +452,7 @@ fn check_ops(
     resolver: &Resolver,
     number: u32,
     file: &ClassFile,
-    near: &Near<'_>,
+    near: &OwnPackage<'_>,
     items: &[Option<Found>],
     allowed: &[bool],
     ops: &[Placed],
@@ -461,7 +460,7 @@ fn check_ops(
     requires inside { number < length resolver.now }
     requires items { AreItems resolver.now file.now.pool items.now }
     requires allowed { AreRight (no_access_item resolver.now file.now) file.now.pool allowed.now }
-    requires near { IsNear resolver.now file.now near.now }
+    requires near { IsOwn resolver.now file.now near.now }
     ensures { IsAnswer (flat_map (no_access_placed resolver.now number file.now) ops.now) result }
 {
     for placed in ops {
@@ -517,7 +516,7 @@ fn check_method(
     resolver: &Resolver,
     number: u32,
     file: &ClassFile,
-    near: &Near<'_>,
+    near: &OwnPackage<'_>,
     items: &[Option<Found>],
     allowed: &[bool],
     method: &MethodItem,
@@ -527,7 +526,7 @@ fn check_method(
     requires inside { number < length resolver.now }
     requires items { AreItems resolver.now file.now.pool items.now }
     requires allowed { AreRight (no_access_item resolver.now file.now) file.now.pool allowed.now }
-    requires near { IsNear resolver.now file.now near.now }
+    requires near { IsOwn resolver.now file.now near.now }
     ensures { IsAnswer (no_access_in resolver.now number file.now method.now) result }
 {
     check_ops(
@@ -544,7 +543,7 @@ fn check_method(
         alloc,
         resolver.program(),
         file,
-        near.own,
+        near.name,
         allowed,
         table(method),
     )
@@ -557,36 +556,39 @@ fn check_file(
     number: u32,
     packages: &Packages<'_>,
     file: &ClassFile,
+    items: &[Option<Found>],
     codes: &[Option<Code>],
 ) -> Result<(), LinkErr>
     requires packages { ArePackages resolver.now packages.now }
+    requires items { AreItems resolver.now file.now.pool items.now }
     requires codes { codes.now ≡ codes_of file.now }
     requires inside { number < length resolver.now }
     ensures { IsAnswer (no_access resolver.now number file.now) result }
 {
-    let items = file_items(alloc, resolver, file)?;
-    let near = near_to(resolver.program(), packages, file);
-    let allowed = allowed_texts(alloc, resolver.program(), file, near.own)?;
-    let (found, allowed) = (items.as_slice(), allowed.as_slice());
+    let near = own_package(resolver.program(), packages, file);
+    let allowed = allowed_texts(alloc, resolver.program(), file, near.name)?;
+    let allowed = allowed.as_slice();
     let methods = file.methods.as_slice();
     for i in 0..methods.len() {
         let (method, code) = (&methods[i], &codes[i]);
         check_method(
-            alloc, resolver, number, file, &near, found, allowed, method, code,
+            alloc, resolver, number, file, &near, items, allowed, method, code,
         )?;
     }
     Ok(())
 }
 
 /// What the code of these classes, which are numbered from `first` on, uses is accessible.
-#[tactic(auto, using(link_rules::proofs::Firsts::numbered_break))]
+#[tactic(auto, using(link_rules::proofs::Firsts::numbered_break, crate::proofs::ItemLaws::items_at))]
 pub fn check_access(
     alloc: Global,
     resolver: &Resolver,
     first: u32,
     files: &[ClassFile],
+    items: &[List<Option<Found>>],
     codes: &[List<Option<Code>>],
 ) -> Result<(), LinkErr>
+    requires items { HaveItems resolver.now files.now items.now }
     requires codes { codes.now ≡ map codes_of files.now }
     requires files_in { first + length files.now ≤ length resolver.now }
     requires few { length resolver.now < 2 ^ 25 }
@@ -601,6 +603,7 @@ pub fn check_access(
             number,
             &packages,
             &files[i],
+            items[i].as_slice(),
             codes[i].as_slice(),
         )?;
         number += 1;

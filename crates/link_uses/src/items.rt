@@ -2,7 +2,7 @@
 
 ghost use Rattle.std.specs.Prelude.{◌≡◌, slice_get, IfOk};
 ghost use Rattle.class_names.specs.Texts.{member_in};
-ghost use Rattle.link_uses.specs.Items.{found_at_index, AreItems, is_field_item, is_method_item};
+ghost use Rattle.link_uses.specs.Items.{found_at_index, AreItems, HaveItems, is_field_item, is_method_item};
 ghost use Rattle.link_uses.specs.Lookups.{found_field, found_method};
 ghost use Rattle.link_uses.specs.TextNumbers.{AreNumbers};
 
@@ -28,7 +28,7 @@ fn find(resolver: &Resolver, numbers: &TextNumbers, pool: &[PoolItem], index: u1
 }
 
 /// The members that the items of a file lead to, by index.
-pub fn file_items(
+fn file_items(
     alloc: Global,
     resolver: &Resolver,
     file: &ClassFile,
@@ -43,6 +43,21 @@ pub fn file_items(
         found.push(find(resolver, &numbers, pool, index))?;
     }
     Ok(found)
+}
+
+/// The members that the items of each of some files lead to, by index.
+pub fn all_items(
+    alloc: Global,
+    resolver: &Resolver,
+    files: &[ClassFile],
+) -> Result<List<List<Option<Found>>>, NoMemory>
+    ensures { IfOk result (λ items. HaveItems resolver.now files.now items) }
+{
+    let mut items = List::new(alloc);
+    for file in files {
+        items.push(file_items(alloc, resolver, file)?)?;
+    }
+    Ok(items)
 }
 
 fn is_field(pool: &[PoolItem], item: u16) -> bool

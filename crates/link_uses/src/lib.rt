@@ -8,12 +8,11 @@ mod kinds;
 mod lookup;
 mod missing;
 mod owned;
-mod packages;
 mod text_numbers;
 mod told;
 mod walk;
 
 pub use access::check_access;
-pub use items::{field_at, file_items, method_at};
+pub use items::{all_items, field_at, method_at};
 pub use lookup::{Found, Resolver};
 pub use walk::{check_members, check_uses};

@@ -5,6 +5,7 @@ ghost use Rattle.std.specs.List.{list_any};
 ghost use Rattle.class_names.specs.Seen.{seen_member};
 ghost use Rattle.class_names.specs.Texts.{member_of_pair};
 ghost use Rattle.hierarchy.specs.Hierarchy.{row_of};
+ghost use Rattle.hierarchy.specs.Joined.{AreJoined};
 ghost use Rattle.hierarchy.specs.Walks.{first_some, or_else, has, IsWalked};
 ghost use Rattle.link_rules.specs.Numbers.{super_rows, interface_rows, field_rows, supers_of};
 ghost use Rattle.link_uses.specs.Lookups.{found_field, found_method};
@@ -16,6 +17,7 @@ use crate::owned::{Owned, Places};
 use crate::text_numbers::{Sign, TextNumbers, holder, pair_sought};
 use class_format::{INTERFACE, has_flag};
 use class_names::Called;
+use hierarchy::joins;
 use jvm_base::{List, NoMemory, PoolItem};
 use link_rules::Program;
 use std::alloc::Global;
@@ -61,39 +63,15 @@ fn row(table: &[List<u32>], number: u32) -> &[u32]
     }
 }
 
-/// The first in the walks over interfaces from some classes.
-fn first_in_interfaces(
-    places: &Places,
-    sign: Sign,
-    interfaces: &[List<u32>],
-    classes: &[u32],
-) -> Option<Found>
-    ensures { result ≡ first_some
-        (λ k. first_some (found_at places.now.entries sign) (row_of interfaces.now k)) classes.now }
-{
-    for number in classes {
-        if let Some(found) = first(places, sign, row(interfaces, *number)) {
-            return Some(found);
-        }
-    }
-    None
-}
-
-/// The first along a walk over superclasses, then in the walks over interfaces from each.
+/// The first along a walk over superclasses, then along the interfaces of them all.
 #[tactic(auto, using(crate::proofs::WalkedLaws::or_first, crate::proofs::WalkedLaws::or_second))]
-fn first_in_class(
-    places: &Places,
-    sign: Sign,
-    interfaces: &[List<u32>],
-    lineage: &[u32],
-) -> Option<Found>
+fn first_in_class(places: &Places, sign: Sign, lineage: &[u32], interfaces: &[u32]) -> Option<Found>
     ensures { result ≡ or_else (first_some (found_at places.now.entries sign) lineage.now)
-        (first_some (λ k. first_some (found_at places.now.entries sign) (row_of interfaces.now k))
-        lineage.now) }
+        (first_some (found_at places.now.entries sign) interfaces.now) }
 {
     match first(places, sign, lineage) {
         Some(found) => Some(found),
-        None => first_in_interfaces(places, sign, interfaces, lineage),
+        None => first(places, sign, interfaces),
     }
 }
 
@@ -109,13 +87,15 @@ fn first_in_interface(places: &Places, sign: Sign, walk: &[u32]) -> Option<Found
     }
 }
 
-/// Looks fields and methods up. It keeps for each class the walks upwards from it, and the members
-/// that it declares. Contracts see the list of all classes.
+/// Looks fields and methods up. It keeps for each class the walks upwards from it, the interfaces
+/// that it and its superclasses have, each once, and the members that it declares. Contracts see the
+/// list of all classes.
 #[derive(Drop)]
 pub struct Resolver<'p, 'a> {
     program: &'p Program<'a>,
     supers: List<List<u32>>,
     interfaces: List<List<u32>>,
+    met: List<List<u32>>,
     fields: List<List<u32>>,
     owned: Owned<'p>,
 }
@@ -126,6 +106,7 @@ impl<'p, 'a> Model for Resolver<'p, 'a> {
     ghost use Rattle.class_format.specs.declared.class.ClassFile.{ClassFile as File};
     ghost use Rattle.class_format.specs.contracts.class.ClassFile.{the_row};
     ghost use Rattle.link_uses.specs.Owned.{IsOwned};
+    ghost use Rattle.hierarchy.specs.Joined.{AreJoined};
     ghost use Rattle.link_uses.specs.Tables.{AreTables};
 
     ghost Value = { Items File };
@@ -134,7 +115,7 @@ impl<'p, 'a> Model for Resolver<'p, 'a> {
 
     ghost view = { λ r. r.program.now };
 
-    ghost invariant = { λ r. AreTables r.program.now r.supers r.interfaces r.fields × IsOwned r.program.now r.owned };
+    ghost invariant = { λ r. AreTables r.program.now r.supers r.interfaces r.fields × (AreJoined r.supers r.interfaces r.met × IsOwned r.program.now r.owned) };
 }
 
 /// The first member of a sign along the walk for fields from a class on.
@@ -156,14 +137,14 @@ fn signed_field(
 fn signed_class_method(
     places: &Places,
     supers: &[List<u32>],
-    interfaces: &[List<u32>],
+    met: &[List<u32>],
     sign: Option<Sign>,
     number: u32,
 ) -> Option<Found>
-    ensures { result ≡ signed_class_method places.now.entries supers.now interfaces.now sign number }
+    ensures { result ≡ signed_class_method places.now.entries supers.now met.now sign number }
 {
     match sign {
-        Some(sign) => first_in_class(places, sign, interfaces, row(supers, number)),
+        Some(sign) => first_in_class(places, sign, row(supers, number), row(met, number)),
         None => None,
     }
 }
@@ -189,16 +170,17 @@ fn signed_method(
     places: &Places,
     supers: &[List<u32>],
     interfaces: &[List<u32>],
+    met: &[List<u32>],
     sign: Option<Sign>,
     number: u32,
 ) -> Option<Found>
-    ensures { result ≡ signed_method program.now places.now.entries supers.now interfaces.now sign
-        number }
+    ensures { result ≡ signed_method program.now places.now.entries supers.now interfaces.now
+        met.now sign number }
 {
     if has_flag(program.flags_at(number as usize), INTERFACE) {
         signed_interface_method(places, interfaces, sign, number)
     } else {
-        signed_class_method(places, supers, interfaces, sign, number)
+        signed_class_method(places, supers, met, sign, number)
     }
 }
 
@@ -242,11 +224,13 @@ fn method_named(
     owned: &Owned,
     supers: &[List<u32>],
     interfaces: &[List<u32>],
+    met: &[List<u32>],
     m: &Called,
 ) -> Option<Found>
     requires owned { IsOwned program.now owned.now }
     requires supers { IsWalked (super_rows program.now) supers.now }
     requires interfaces { IsWalked (interface_rows program.now) interfaces.now }
+    requires met { AreJoined supers.now interfaces.now met.now }
     requires ranked { HasRanks (interface_rows program.now) }
     requires some { 0 < length program.now }
     requires few { length program.now < 2 ^ 25 }
@@ -254,7 +238,15 @@ fn method_named(
 {
     let number = holder(program, m.class);
     let sign = owned.sign(m);
-    signed_method(program, &owned.methods, supers, interfaces, sign, number)
+    signed_method(
+        program,
+        &owned.methods,
+        supers,
+        interfaces,
+        met,
+        sign,
+        number,
+    )
 }
 
 /// The method that the member item of a class and a pair names.
@@ -263,6 +255,7 @@ fn method_of_pair(
     owned: &Owned,
     supers: &[List<u32>],
     interfaces: &[List<u32>],
+    met: &[List<u32>],
     numbers: &TextNumbers,
     pool: &[PoolItem],
     class: u16,
@@ -271,6 +264,7 @@ fn method_of_pair(
     requires owned { IsOwned program.now owned.now }
     requires supers { IsWalked (super_rows program.now) supers.now }
     requires interfaces { IsWalked (interface_rows program.now) interfaces.now }
+    requires met { AreJoined supers.now interfaces.now met.now }
     requires ranked { HasRanks (interface_rows program.now) }
     requires some { 0 < length program.now }
     requires few { length program.now < 2 ^ 25 }
@@ -280,7 +274,15 @@ fn method_of_pair(
 {
     let sought = pair_sought(program, &owned.names, numbers, pool, class, pair);
     let (sign, number) = (sought.sign, sought.holder);
-    signed_method(program, &owned.methods, supers, interfaces, sign, number)
+    signed_method(
+        program,
+        &owned.methods,
+        supers,
+        interfaces,
+        met,
+        sign,
+        number,
+    )
 }
 
 fn is_other(walk: &[u32], number: u32, above: u32) -> bool
@@ -305,6 +307,7 @@ fn is_in_supers(program: &Program, supers: &[List<u32>], number: u32, above: u32
 
 impl<'p, 'a> Resolver<'p, 'a> {
     /// A resolver with tables of the program's walks.
+    #[tactic(auto, using(crate::proofs::WalkedLaws::interfaces_within))]
     pub fn new(
         alloc: Global,
         program: &'p Program<'a>,
@@ -316,10 +319,12 @@ impl<'p, 'a> Resolver<'p, 'a> {
         ensures { IfOk result (λ resolver. resolver ≡ program.now) }
     {
         let owned = Owned::new(alloc, program)?;
+        let met = joins(alloc, supers.as_slice(), interfaces.as_slice())?;
         Ok(Resolver {
             program,
             supers,
             interfaces,
+            met,
             fields,
             owned,
         })
@@ -379,7 +384,8 @@ impl<'p, 'a> Resolver<'p, 'a> {
         ensures { result ≡ found_method self.now (seen_member m.now) }
     {
         let (supers, interfaces) = (self.supers.as_slice(), self.interfaces.as_slice());
-        method_named(self.program, &self.owned, supers, interfaces, m)
+        let met = self.met.as_slice();
+        method_named(self.program, &self.owned, supers, interfaces, met, m)
     }
 
     /// The method that the item of a class and a pair names, by the numbers of its texts.
@@ -395,9 +401,9 @@ impl<'p, 'a> Resolver<'p, 'a> {
             ≡ found_method self.now (member_of_pair pool.now class (slice_get pool.now pair)) }
     {
         let (supers, interfaces) = (self.supers.as_slice(), self.interfaces.as_slice());
-        let (program, owned) = (self.program, &self.owned);
+        let (program, owned, met) = (self.program, &self.owned, self.met.as_slice());
         method_of_pair(
-            program, owned, supers, interfaces, numbers, pool, class, pair,
+            program, owned, supers, interfaces, met, numbers, pool, class, pair,
         )
     }
 

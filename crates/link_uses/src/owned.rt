@@ -10,7 +10,8 @@ ghost use Rattle.class_names.specs.Known.{is_known, add_name, add_names};
 ghost use Rattle.class_names.specs.Seen.{seen_member};
 ghost use Rattle.class_names.specs.Texts.{text_in};
 ghost use Rattle.link_uses.specs.Kept.{AreAdded};
-ghost use Rattle.link_uses.specs.Owned.{Key, key_cmp, place_at, signatures, signatures_at, signature_texts, member_texts, class_texts, member_names, name_number, has_key, sign_of, ArePlaces, IsOwned};
+ghost use Rattle.link_members.specs.Signs.{name_number};
+ghost use Rattle.link_uses.specs.Owned.{Key, key_cmp, place_at, signatures, signatures_at, signature_texts, member_texts, class_texts, member_names, has_key, sign_of, ArePlaces, IsOwned};
 ghost use Rattle.link_uses.specs.TextNumbers.{AreOf};
 
 use crate::text_numbers::{Sign, name_numbers, number_at, signed};

@@ -3,7 +3,8 @@
 ghost use Rattle.std.specs.Prelude.{◌≡◌, ◌<◌, ◌^◌, [], length, slice_get, IfOk};
 ghost use Rattle.class_names.specs.Texts.{class_text, member_of_pair, text_in};
 ghost use Rattle.link_rules.specs.Numbers.{holder_of};
-ghost use Rattle.link_uses.specs.Owned.{name_number, sign_of, signed, member_names};
+ghost use Rattle.link_members.specs.Signs.{name_number, signed};
+ghost use Rattle.link_uses.specs.Owned.{sign_of, member_names};
 ghost use Rattle.link_uses.specs.TextNumbers.{AreOf, AreNumbers, pair_of};
 
 use class_names::{Names, is_array, text};

@@ -4,12 +4,11 @@ ghost use Rattle.std.specs.Prelude.{◌≡◌, map, IfOk};
 ghost use Rattle.std.specs.List.{flat_map};
 ghost use Rattle.class_names.specs.Classes.{code_of, codes_of};
 ghost use Rattle.link_rules.specs.Answers.{IsAnswer};
-ghost use Rattle.link_uses.specs.Items.{AreItems};
+ghost use Rattle.link_uses.specs.Items.{AreItems, HaveItems};
 ghost use Rattle.link_uses.specs.Told.{AreTold};
 ghost use Rattle.link_uses.specs.Uses.{no_members, wrong_uses};
 ghost use Rattle.link_uses.specs.Walk.{broken, broken_placed, broken_in, broken_file};
 
-use crate::items::file_items;
 use crate::lookup::{Found, Resolver};
 use crate::told::Told;
 use crate::{kinds, missing};
@@ -106,44 +105,39 @@ fn check_file(
     resolver: &Resolver,
     rule: Rule,
     file: &ClassFile,
+    items: &[Option<Found>],
     codes: &[Option<Code>],
 ) -> Result<(), LinkErr>
+    requires items { AreItems resolver.now file.now.pool items.now }
     requires codes { codes.now ≡ codes_of file.now }
     ensures { IsAnswer (broken_file rule resolver.now file.now) result }
 {
-    let items = file_items(alloc, resolver, file)?;
     let told = told_for(alloc, rule, resolver.program(), file.pool.as_slice())?;
     let methods = file.methods.as_slice();
     for i in 0..methods.len() {
         let (method, code) = (&methods[i], &codes[i]);
-        check_method(
-            alloc,
-            resolver,
-            rule,
-            file,
-            items.as_slice(),
-            &told,
-            method,
-            code,
-        )?;
+        check_method(alloc, resolver, rule, file, items, &told, method, code)?;
     }
     Ok(())
 }
 
 /// No instruction of the files breaks the rule.
-#[tactic(auto, using(link_rules::proofs::Firsts::places_break))]
+#[tactic(auto, using(link_rules::proofs::Firsts::places_break, crate::proofs::ItemLaws::items_at))]
 fn check_files(
     alloc: Global,
     resolver: &Resolver,
     rule: Rule,
     files: &[ClassFile],
+    items: &[List<Option<Found>>],
     codes: &[List<Option<Code>>],
 ) -> Result<(), LinkErr>
-    requires { codes.now ≡ map codes_of files.now }
+    requires items { HaveItems resolver.now files.now items.now }
+    requires codes { codes.now ≡ map codes_of files.now }
     ensures { IsAnswer (flat_map (broken_file rule resolver.now) files.now) result }
 {
     for i in 0..files.len() {
-        check_file(alloc, resolver, rule, &files[i], codes[i].as_slice())?;
+        let (file, found) = (&files[i], items[i].as_slice());
+        check_file(alloc, resolver, rule, file, found, codes[i].as_slice())?;
     }
     Ok(())
 }
@@ -154,12 +148,14 @@ pub fn check_members(
     alloc: Global,
     resolver: &Resolver,
     files: &[ClassFile],
+    items: &[List<Option<Found>>],
     codes: &[List<Option<Code>>],
 ) -> Result<(), LinkErr>
-    requires { codes.now ≡ map codes_of files.now }
+    requires items { HaveItems resolver.now files.now items.now }
+    requires codes { codes.now ≡ map codes_of files.now }
     ensures { IsAnswer (flat_map (no_members resolver.now) files.now) result }
 {
-    check_files(alloc, resolver, Rule::Members, files, codes)
+    check_files(alloc, resolver, Rule::Members, files, items, codes)
 }
 
 /// What the files' code uses is of the kind that its instruction asks.
@@ -168,10 +164,12 @@ pub fn check_uses(
     alloc: Global,
     resolver: &Resolver,
     files: &[ClassFile],
+    items: &[List<Option<Found>>],
     codes: &[List<Option<Code>>],
 ) -> Result<(), LinkErr>
-    requires { codes.now ≡ map codes_of files.now }
+    requires items { HaveItems resolver.now files.now items.now }
+    requires codes { codes.now ≡ map codes_of files.now }
     ensures { IsAnswer (flat_map (wrong_uses resolver.now) files.now) result }
 {
-    check_files(alloc, resolver, Rule::Kinds, files, codes)
+    check_files(alloc, resolver, Rule::Kinds, files, items, codes)
 }

@@ -15,3 +15,5 @@ pub mod LockSteps
 pub mod LegalRuns
 pub mod NewLaws
 pub mod KeepingLaws
+pub mod Results
+pub mod OrderLaws

@@ -26,3 +26,4 @@ pub mod Runs
 pub mod Accesses
 pub mod LegalLocks
 pub mod Laws
+pub mod OrderRows

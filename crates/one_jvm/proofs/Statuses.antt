@@ -18,7 +18,7 @@ use Rattle.one_jvm.specs.declared.outcome.Refusal.{Refusal}
 use Rattle.one_jvm.specs.declared.outcome.Refusal.TheVariants.{Usage, File, Link, Flow, NoFile, ReadFault, WriteFault, TooLong, NoMemory, BadOrder, NotEnabled, EarlyOrder}
 use Rattle.one_jvm.specs.Words.{Asked, IsCall, IsNoCall, AskFor, IsRun, IsCheck, IsReplay, ShowsOrder}
 use Rattle.one_jvm.specs.Replays.{Replayed, IsEarly, EndsAs}
-use Rattle.one_jvm.specs.Verdicts.{LacksFile, HasLongFile, IsRefusedCall, HasBadOrder, HasReplay, IsDoneCall, IsVerdict}
+use Rattle.one_jvm.specs.Verdicts.{LacksFile, HasLongFile, IsRefusedCall, HasBadOrder, HasCheckedFiles, HasReplay, IsDoneCall, IsVerdict}
 use Rattle.one_jvm.specs.Outcomes.{status_of, end_status, outcome_status}
 use Rattle.one_jvm.specs.Answers.{Faults, IsHindrance, IsHindered, Because, Ran, Agrees, IsRefusedRun, IsShown, IsShownText, OneOf, hindered, ends, broken, Exactly, Answers, AnswersOneOf, HasEndStatus, EndsRun, HasReplayStatus, EndsReplay, IsStatus, refusal_of, IsClosed}
 use Rattle.one_jvm.proofs.RunLoop.{ran_leads}
@@ -697,3 +697,32 @@ module _ (law : OneVerdict) (words : List (List ℕ)) (told : Option Files) (fau
 
   pub replayed : EndsReplay words told status
   replayed r fs t = replay_status fs t r
+
+-- ---- the status of a check
+
+module _ (words : List (List ℕ)) (told : Option Files) (s : Option Stop) (refusal : Option Refusal) (status : ℕ) (c : IsCheck words) (is : IsStatus words s refusal status)
+    (not_run : ¬ IsRun words → s ≡ None) (done : AnswersOneOf told words status ends IsDoneCall) where
+  -- it asks for nothing else
+  asks_else : (d : Command) → (d ≡ Check → ⊥) → AskFor d words → ⊥
+  asks_else d n a = n (one_command words a.0 d Check a.1 a.2 c)
+
+  -- of the statuses of a call that isn't refused it has 0
+  check_zero : OneOf ends status → status ≡ 0
+  check_zero = by_refusal refusal is
+    where
+      by_refusal : (r : Option Refusal) → IsStatus words s r status → OneOf ends status → status ≡ 0
+      by_refusal None i o = i (asks_else Replay (λ e. absurd cc)) ∙ ap end_status (not_run (asks_else Run (λ e. absurd cc)))
+      by_refusal (Some e) i o = absurd (apart ends (status_of (Some e)) (refusal_is e) (subst (OneOf ends) i o))
+
+  -- the accepted files of such words are to be checked
+  to_check : (files : Option Files) → IsDoneCall files words → HasCheckedFiles files words
+  to_check files (inl h) = absurd (asks_else Run (λ e. absurd cc) (h.1.asked, h.1.is_call, h.1.such.asks))
+  to_check files (inr (inl h)) = h
+  to_check files (inr (inr h)) = absurd (asks_else Replay (λ e. absurd cc) (h.1.asked, h.1.is_call, h.1.such.is.program.asks))
+
+  -- it has it exactly where the files are accepted
+  pub checked : Answers told words status 0 HasCheckedFiles
+  checked fs t = record {
+    only = λ z. to_check (Some fs) ((done fs t).only (inl z));
+    always = λ h. ⊎_elim (λ o. inl (check_zero o)) (λ o. inr o) ((done fs t).always (inr (inl h)));
+  }

@@ -8,8 +8,8 @@ ghost use Rattle.cjvm_io.specs.Shelves.{Files};
 ghost use Rattle.cjvm_io.specs.Sinks.{GainsAll, shown};
 ghost use Rattle.command_words.specs.declared.words.Command.TheVariants.{Run, Replay};
 ghost use Rattle.order_text.specs.Spelling.{HasClass, order_text};
-ghost use Rattle.one_jvm.specs.Words.{Asked, IsCall, IsNoCall, IsRun, IsReplay, ShowsOrder, texts};
-ghost use Rattle.one_jvm.specs.Verdicts.{LacksFile, HasLongFile, IsRefusedCall, HasBadOrder, HasReplay, IsProgram, IsReplayed, IsDoneCall};
+ghost use Rattle.one_jvm.specs.Words.{Asked, IsCall, IsNoCall, IsRun, IsCheck, IsReplay, ShowsOrder, texts};
+ghost use Rattle.one_jvm.specs.Verdicts.{LacksFile, HasLongFile, IsRefusedCall, HasBadOrder, HasCheckedFiles, HasReplay, IsProgram, IsReplayed, IsDoneCall};
 ghost use Rattle.one_jvm.specs.Replays.{IsEarly};
 ghost use Rattle.one_jvm.specs.Outcomes.{report, outcome_status};
 ghost use Rattle.one_jvm.specs.Answers.{Ran, IsAccepted, Says, IsUnwritten, ComesFirst, the_faults, refusal_of, OneOf, ends, broken, Exactly, Answers, AnswersOneOf, EndsRun, EndsReplay, IsStatus, IsClosed, IsShownText, Reports};
@@ -366,6 +366,8 @@ pub fn cjvm<S: Shelf, O: Sink, E: Sink>(
     ensures early { Answers (S.files shelf.old) (texts words.now) result.status 13
         (HasReplay IsEarly) }
     ensures ended { AnswersOneOf (S.files shelf.old) (texts words.now) result.status ends IsDoneCall }
+    ensures checked { IsCheck (texts words.now)
+        → Answers (S.files shelf.old) (texts words.now) result.status 0 HasCheckedFiles }
     ensures read_fault { result.status ≡ 5 → Rose (S.faults shelf.old) (S.faults shelf.new) }
     ensures write_fault { result.status ≡ 6 → Rose (O.faults out.old) (O.faults out.new)
         ⊎ Rose (E.faults err.old) (E.faults err.new) }

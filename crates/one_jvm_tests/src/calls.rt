@@ -16,7 +16,7 @@ const AS_IT_IS: (usize, u8) = (0, 0xca);
 fn refuses_words_and_files(rt: HostRuntime) -> Result<(), Fail> {
     let alloc = rt.alloc();
     let (at, byte) = AS_IT_IS;
-    let rows: [Row<'_>; 17] = [
+    let rows: [Row<'_>; 18] = [
         (&[], at, byte, 2, b"cjvm: usage\n"),
         (&["run"], at, byte, 2, b"cjvm: usage\n"),
         (&["check"], at, byte, 2, b"cjvm: usage\n"),
@@ -68,6 +68,13 @@ fn refuses_words_and_files(rt: HostRuntime) -> Result<(), Fail> {
             byte,
             3,
             b"cjvm: refused q/Q link no-main main\n",
+        ),
+        (
+            &["run", "--main", "\u{dc}", "A.class"],
+            at,
+            byte,
+            3,
+            b"cjvm: refused \xc3\x9c link no-main main\n",
         ),
         (
             &["run", "B.class", "A.class"],

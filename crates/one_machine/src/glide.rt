@@ -20,8 +20,9 @@ fn glide_frame(image: &Image, frame: &mut Frame, most: u64) -> u64
     requires can { Always (frame_move image.now) frame.old (CanPlanIn image.now) }
     ensures { AreMoves (frame_move image.now) most result frame.old frame.new }
 {
+    let mut place = 0;
     for taken in 0..most {
-        if !move_frame(image, frame) {
+        if !move_frame(image, frame, &mut place) {
             return taken;
         }
     }

@@ -12,7 +12,7 @@ use code_table::Placed;
 use frame_ops::{Given, Pure, step_at};
 use jvm_base::{Frame, Phase};
 use program_image::Image;
-use program_reads::instruction_at;
+use program_reads::instruction_near;
 use step_plan::given_to;
 
 /// The frame goes on, if its instruction touches nothing else.
@@ -26,22 +26,22 @@ fn move_placed(placed: &Placed, frame: &mut Frame, given: Given) -> bool
 }
 
 /// The frame goes on at its instruction.
-fn move_body(image: &Image, frame: &mut Frame) -> bool
+fn move_body(image: &Image, frame: &mut Frame, place: &mut usize) -> bool
     requires whole { IsWhole image.now }
     requires body { frame.old.phase ≡ phase.Body }
     requires can { CanPlanIn image.now frame.old }
     ensures moved { result ≡ is_some (body_next image.now frame.old) }
     ensures frame { frame.new ≡ from frame.old (λ f. f) (body_next image.now frame.old) }
 {
-    let Some(placed) = instruction_at(image, frame.method, frame.at) else {
+    let Some(placed) = instruction_near(image, frame.method, frame.at, place) else {
         return false;
     };
     let given = given_to(image, frame, &placed.op);
     move_placed(placed, frame, given)
 }
 
-/// The frame goes on, where it runs its code.
-pub(crate) fn move_frame(image: &Image, frame: &mut Frame) -> bool
+/// The frame goes on, where it runs its code. The instruction is looked for at the place first.
+pub(crate) fn move_frame(image: &Image, frame: &mut Frame, place: &mut usize) -> bool
     requires whole { IsWhole image.now }
     requires can { CanPlanIn image.now frame.old }
     ensures moved { result ≡ is_some (frame_next image.now frame.old frame.old.phase) }
@@ -49,7 +49,7 @@ pub(crate) fn move_frame(image: &Image, frame: &mut Frame) -> bool
         ≡ from frame.old (λ f. f) (frame_next image.now frame.old frame.old.phase) }
 {
     match frame.phase {
-        Phase::Body => move_body(image, frame),
+        Phase::Body => move_body(image, frame, place),
         _ => false,
     }
 }

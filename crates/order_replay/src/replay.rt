@@ -27,11 +27,13 @@ pub enum Ending {
     NotEnabled { step: u64 },
 }
 
-/// An order's steps so far. The order is the caller's, and stays the same from burst to burst.
+/// An order's steps so far. The order is the caller's, and stays the same from burst to burst; `row` is
+/// where its next choice is looked for first.
 #[derive(Drop)]
 pub struct Replay {
     machine: Machine,
     taken: u64,
+    row: usize,
 }
 
 impl Model for Replay {
@@ -44,7 +46,7 @@ impl Model for Replay {
 
 /// The number of the step after those that were taken, counted from 1, and its choice; `None`
 /// exactly where all were taken.
-fn next_step(order: &Order, taken: u64) -> Option<(u64, Choice)>
+fn next_step(order: &Order, taken: u64, row: &mut usize) -> Option<(u64, Choice)>
     requires { taken ≤ length order.now }
     ensures { MatchOption result (taken ≡ length order.now)
         (λ next. (next.0 ≡ taken + 1) × (slice_get order.now taken ≡ Some next.1)) }
@@ -52,7 +54,7 @@ fn next_step(order: &Order, taken: u64) -> Option<(u64, Choice)>
     if taken >= order.len() {
         return None;
     }
-    Some((taken + 1, order.get(taken)?))
+    Some((taken + 1, order.get_near(taken, row)?))
 }
 
 /// How a machine stands that has taken all steps.
@@ -84,6 +86,7 @@ impl Replay {
         Ok(Replay {
             machine: Machine::new(alloc, image, args)?,
             taken: 0,
+            row: 0,
         })
     }
 
@@ -100,7 +103,7 @@ impl Replay {
         ensures later { TakesOn image.now order.now self.old self.new }
         ensures turn { IfOk result (IsTaken image.now order.now self.old self.new) }
     {
-        let Some((step, choice)) = next_step(order, self.taken) else {
+        let Some((step, choice)) = next_step(order, self.taken, &mut self.row) else {
             return Ok(Some(ending_of(alloc, image, &self.machine)?));
         };
         match self.machine.step(alloc, image, choice) {

@@ -44,8 +44,9 @@ pub fn write_order(alloc: Global, order: &Order) -> Result<List<u8>, NoMemory>
 {
     let mut text = List::new(alloc);
     text.append(HEAD)?;
+    let mut row = 0;
     for at in 0..order.len() {
-        if let Some(choice) = order.get(at) {
+        if let Some(choice) = order.get_near(at, &mut row) {
             push_choice(&mut text, choice)?;
         }
     }

@@ -30,14 +30,15 @@ room_of p m = from 0 (λ code. code.max_stack) (code_of p m)
 abbrev pub locals_of : Program → ℕ → ℕ
 locals_of p m = from 0 (λ code. code.max_locals) (code_of p m)
 
+-- the zero of a type that is no array's
+abbrev pub elem_zero : Elem → Value
+elem_zero (elem.Object name) = Null
+elem_zero elem.Long = Long (pos 0)
+elem_zero _ = Int (pos 0)
+
 -- what a field of the type holds at first (JVMS2 2.5.1)
 abbrev pub zero_of : Desc → Value
 zero_of d = if d.dims == 0 then elem_zero d.elem else Null
-  where
-    elem_zero : Elem → Value
-    elem_zero (elem.Object name) = Null
-    elem_zero elem.Long = Long (pos 0)
-    elem_zero _ = Int (pos 0)
 
 -- the fields that the class of a number declares
 abbrev pub fields_of : Program → ℕ → List FieldInfo

@@ -10,6 +10,8 @@ mod named;
 mod tables;
 mod totals;
 
-pub use lookups::{NO_NODE, clinit_of, code_of, holder, instruction_at, super_of};
+pub use lookups::{
+    NO_NODE, clinit_of, code_of, holder, instruction_at, instruction_near, super_of,
+};
 pub use tables::Tables;
 pub use totals::{handler, is_sub, select};

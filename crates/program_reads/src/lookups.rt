@@ -10,7 +10,7 @@ ghost use Rattle.program_reads.specs.Whole.{IsWhole};
 
 use crate::boot;
 use code_table::{Code, Placed};
-use frame_ops::placed_at;
+use frame_ops::{placed_at, placed_near};
 use jvm_base::Name;
 use program_image::{Body, Image};
 
@@ -61,6 +61,21 @@ pub fn instruction_at(image: &Image, method: u32, at: u32) -> Option<&Placed>
 {
     let code = code_of(image, method)?;
     placed_at(code, at)
+}
+
+/// The instruction at an address of a method, where a place is tried before a search.
+pub fn instruction_near<'a>(
+    image: &'a Image,
+    method: u32,
+    at: u32,
+    place: &mut usize,
+) -> Option<&'a Placed>
+    requires { IsWhole image.now }
+    ensures instruction { option_copied result ≡ instruction_at image.now method at }
+    ensures within { IsSome result → method < length image.now.methods }
+{
+    let code = code_of(image, method)?;
+    placed_near(code, at, place)
 }
 
 /// The object that holds the statics of a class, and is its lock.

@@ -1,17 +1,15 @@
 -- Where memory runs out, the order is of steps that were taken, and the bytes that those wrote are told.
-use Rattle.std.proofs.Common.{◌≡◌, ℕ, ◌+◌, ◌-◌, ◌≤◌, List, [], ◌∷◌, ◌++◌, length, take, replicate, Some, Result, Ok, Err, refl, sym, ap, ◌∙◌, subst, arith}
+use Rattle.std.proofs.Common.{◌≡◌, ℕ, ◌+◌, ◌-◌, ◌≤◌, List, [], ◌∷◌, ◌++◌, length, take, Some, Result, Ok, Err, refl, sym, ap, ◌∙◌, subst, arith}
 use Rattle.std.specs.Prelude.{OnOk, OnErr}
-use Rattle.std.proofs.lemmas.List.{replicate-append-replicate}
 use Rattle.std.proofs.Math.Seq.{take-append_seam, take-length}
 use Rattle.program_image.specs.Program.{Program}
 use Rattle.machine_state.specs.declared.state.Choice.{Choice}
-use Rattle.machine_state.specs.Runs.{any_choice, run}
 use Rattle.machine_state.specs.State.{State}
 use Rattle.machine_state.specs.Step.{step}
 use Rattle.one_machine.specs.Gliding.{Glides}
 use Rattle.scheduler.specs.Running.{Run, IsRun, GoesOn, LeadsOn}
-use Rattle.scheduler.proofs.Printing.{step_grows, run_grows, never_grew}
-use Rattle.scheduler.proofs.Runs.{run_append, run_front, goes_nowhere}
+use Rattle.scheduler.proofs.Printing.{step_grows}
+use Rattle.scheduler.proofs.Runs.{goes_nowhere}
 
 -- all that a run's machine printed is told
 pub all_told : (p : Program) (a : Run) → IsRun p a → take a.printed a.machine.state.output ≡ a.machine.state.output
@@ -41,40 +39,17 @@ unkept p a b m l c run from to taken order printed =
     ∙ take-append_seam m.output g.printed
     ∙ ap (λ (s : State). s.output) (sym from))
 
--- of steps in a row that print nothing, not all are in the order
-pub glides_on : (p : Program) (a b : Run) (m l : State) (t most limit count n : ℕ) → IsRun p a
-    → a.machine.state ≡ m → b.machine.state ≡ l → Glides p m t most limit count l → n ≤ count
-    → b.order ≡ a.order ++ replicate n (any_choice t) → b.printed ≡ a.printed
-    → GoesOn p a.machine.state a.order b
-glides_on p a b m l t most limit count n stands from to g few order printed =
-    let split : replicate n (any_choice t) ++ replicate (count - n) (any_choice t)
-    ≡ replicate count (any_choice t) =
-    replicate-append-replicate n (count - n) (any_choice t)
-    ∙ ap (λ (k : ℕ). replicate k (any_choice t)) (omega arith) in
-    let whole : run p m (replicate n (any_choice t) ++ replicate (count - n) (any_choice t))
-    ≡ Some l = ap (run p m) split ∙ g.leads in
-    let front = run_front p m l (replicate n (any_choice t))
-    (replicate (count - n) (any_choice t)) whole in
-    let rest : run p front.0 (replicate (count - n) (any_choice t)) ≡ Some l =
-    sym (run_append p m front.0 (replicate n (any_choice t))
-    (replicate (count - n) (any_choice t)) front.1) ∙ whole in
+-- steps in a row that print nothing may not be in the order
+pub unglided : (p : Program) (a b : Run) (m l : State) (t most limit count : ℕ) → IsRun p a
+    → a.machine.state ≡ m → b.machine.state ≡ l → Glides p m t most limit count l
+    → b.order ≡ a.order → b.printed ≡ a.printed → GoesOn p a.machine.state a.order b
+unglided p a b m l t most limit count stands from to g order printed =
     let silent : l.output ≡ m.output = ap (λ (s : State). s.output) g.shared in
-    let same : front.0.output ≡ m.output =
-    never_grew m front.0 l (run_grows p m front.0 (replicate n (any_choice t)) front.1)
-    (run_grows p front.0 l (replicate (count - n) (any_choice t)) rest) silent in
-    record {
-      last = front.0;
-      leads = record {
-        more = replicate n (any_choice t);
-        order = order;
-        leads = subst (λ (s : State). run p s (replicate n (any_choice t)) ≡ Some front.0)
-            (sym from) front.1;
-      };
-      printed = ap (λ (k : ℕ). take k b.machine.state.output) printed
-          ∙ ap (λ (s : State). take a.printed s.output) to
-          ∙ ap (take a.printed) (silent ∙ ap (λ (s : State). s.output) (sym from))
-          ∙ all_told p a stands ∙ ap (λ (s : State). s.output) from ∙ sym same;
-    }
+    goes_nowhere p a.machine.state a.order b order
+    (ap (λ (k : ℕ). take k b.machine.state.output) printed
+    ∙ ap (λ (s : State). take a.printed s.output) to
+    ∙ ap (take a.printed) (silent ∙ ap (λ (s : State). s.output) (sym from))
+    ∙ all_told p a stands)
 
 -- the machine stands where the order leads
 pub goes_whole : (p : Program) (m : State) (before : List Choice) (r : Run) → IsRun p r

@@ -92,15 +92,3 @@ printed_behind m l g written e =
 -- so there is as much at least
 pub grows_longer : (m l : State) → Grows m l → length m.output ≤ length l.output
 grows_longer m l g = omega (arith, ap length g.output, length-append m.output g.printed)
-
--- what grows, and then has grown by nothing in all, has never grown
-pub never_grew : (m k l : State) → Grows m k → Grows k l → l.output ≡ m.output → k.output ≡ m.output
-never_grew m k l g h e =
-    let first : length k.output ≡ length m.output + length g.printed = ap length g.output ∙ length-append m.output g.printed in
-    let then : length l.output ≡ length k.output + length h.printed = ap length h.output ∙ length-append k.output h.printed in
-    let all : length l.output ≡ length m.output = ap length e in
-    g.output ∙ ap (λ (z : List ℕ). m.output ++ z) (none g.printed (omega (arith, first, then, all))) ∙ append-nil m.output
-  where
-    none : (xs : List ℕ) → length xs ≡ 0 → xs ≡ []
-    none [] n = refl
-    none (x ∷ xs) n = absurd cc

@@ -47,20 +47,6 @@ leads_further {p = p} {m = m} {l = l} {before = before} x y = record {
   leads = run_append p m l x.more y.more x.leads ∙ y.leads;
 }
 
--- what comes first in a run is a run
-pub run_front : (p : Program) (m l : State) (cs ds : List Choice) → run p m (cs ++ ds) ≡ Some l
-    → (s : State) × (run p m cs ≡ Some s)
-unfolding run
-run_front p m l [] ds e = (m, refl)
-run_front p m l (c ∷ cs) ds e = by_step (step p m c) (λ n h. run_front p n l cs ds h) e
-  where
-    by_step : (o : Option State)
-        → ((n : State) → run p n (cs ++ ds) ≡ Some l → (s : State) × (run p n cs ≡ Some s))
-        → from None (λ next. run p next (cs ++ ds)) o ≡ Some l
-        → (s : State) × (from None (λ next. run p next cs) o ≡ Some s)
-    by_step None more h = absurd cc
-    by_step (Some n) more h = more n h
-
 -- the order stays: it's legal without a further step
 pub goes_nowhere : (p : Program) (m : State) (before : List Choice) (r : Run) → r.order ≡ before
     → take r.printed r.machine.state.output ≡ m.output → GoesOn p m before r

@@ -73,18 +73,6 @@ impl Model for Run {
     } };
 }
 
-/// Adds so many choices of a thread to an order, each of a step that touches its frame alone.
-fn add_choices(order: &mut Order, thread: u32, count: u64) -> Result<(), NoMemory>
-    ensures ok { OnOk result (order.new ≡ order.old ++ replicate count (any_choice thread)) }
-    ensures err { OnErr result ((n : ℕ) × (n ≤ count)
-        × (order.new ≡ order.old ++ replicate n (any_choice thread))) }
-{
-    for _ in 0..count {
-        order.push(any_choice(thread))?;
-    }
-    Ok(())
-}
-
 impl Run {
     /// A program before its first step, with its arguments, and how many steps each thread may
     /// take.
@@ -184,6 +172,7 @@ impl Run {
         ensures err { OnErr result
             (GoesOn image.now self.old.machine.state self.old.order self.new) }
     {
+        // Where no name is left this one is in use, which is refused.
         let index = u32::try_from(self.next).unwrap_or(u32::MAX);
         match self
             .machine
@@ -201,6 +190,16 @@ impl Run {
         }
     }
 
+    /// How many steps are left of the turn. Where there is one thread its next turn begins as soon as
+    /// one has ended, since nobody else is to be looked for.
+    fn left_of_turn(&self) -> u32 {
+        if self.left == 0 && self.machine.threads() == 1 {
+            TURN
+        } else {
+            self.left
+        }
+    }
+
     /// Takes steps of the thread in turn that touch its frame alone, in a row: as many as are left of
     /// its turn and of its steps, up to the first that does more.
     fn glide(&mut self, image: &Image) -> Result<(), NoMemory>
@@ -212,10 +211,11 @@ impl Run {
         ensures err { OnErr result
             (GoesOn image.now self.old.machine.state self.old.order self.new) }
     {
-        let most = u64::from(self.left);
+        let left = self.left_of_turn();
+        let most = u64::from(left);
         let taken = self.machine.glide(image, self.thread, most, self.limit);
-        self.left -= taken as u32;
-        add_choices(&mut self.order, self.thread, taken)?;
+        self.left = left - taken as u32;
+        self.order.push_many(any_choice(self.thread), taken)?;
         Ok(())
     }
 

@@ -6,7 +6,7 @@ use Rattle.std.proofs.lemmas.Float.{T_from_true}
 use Rattle.std.proofs.lemmas.List.{length-take, length-replicate}
 use Rattle.flow_types.specs.Tree.{IsTree}
 use Rattle.flow_types.specs.Types.{joined, type_fits}
-use Rattle.flow_types.proofs.TypeLaws.{type-antisym}
+use Rattle.flow_types.proofs.TypeLaws.{top, type-antisym}
 use Rattle.flow_types.specs.TypeLists.{types_fit, types_joined, is_operand}
 use Rattle.flow_types.specs.declared.flow_type.FlowType.{FlowType}
 use Rattle.flow_types.specs.declared.flow_type.FlowType.TheVariants.{Unusable, Int, Long, High, Null, Class, Array, Fresh, FreshThis}
@@ -53,21 +53,10 @@ fit_parts supers (w ∷ ws) xs (y ∷ ys) zs h =
     let e : types_fit supers (ws ++ xs) (ys ++ zs) ≡ (types_fit supers ws ys && types_fit supers xs zs) = fit_parts supers ws xs ys zs (omega arith) in
     elim (cases_Bool (type_fits supers w y)) [ inl q ↦ rw (q, e) refl | inr q ↦ rw q refl ]
 
-pub fits_unusable : (supers : List (Option ℕ)) (t : FlowType) → type_fits supers t Unusable ≡ true
-fits_unusable supers Unusable = refl
-fits_unusable supers Int = refl
-fits_unusable supers Long = refl
-fits_unusable supers High = refl
-fits_unusable supers Null = refl
-fits_unusable supers (Class c) = refl
-fits_unusable supers (Array d e) = refl
-fits_unusable supers (Fresh a) = refl
-fits_unusable supers FreshThis = refl
-
 -- all types fit Unusable
 pub fit_top : (supers : List (Option ℕ)) (xs : List FlowType) → types_fit supers xs (replicate (length xs) Unusable) ≡ true
 fit_top supers [] = refl
-fit_top supers (x ∷ xs) = rw (fits_unusable supers x) (fit_top supers xs)
+fit_top supers (x ∷ xs) = rw (top supers x) (fit_top supers xs)
 
 unusable_fits_is : (supers : List (Option ℕ)) (t : FlowType) → type_fits supers Unusable t ≡ is_unusable t
 unusable_fits_is supers Unusable = refl
@@ -114,7 +103,7 @@ joined_parts supers (w ∷ ws) xs [] zs h = absurd (omega arith)
 joined_parts supers (w ∷ ws) xs (y ∷ ys) zs h = ap (λ ts. joined supers w y ∷ ts) (joined_parts supers ws xs ys zs (omega arith))
 
 joined_top : (supers : List (Option ℕ)) (t : FlowType) → joined supers t Unusable ≡ Unusable
-joined_top supers t = rw (fits_unusable supers t) refl
+joined_top supers t = rw (top supers t) refl
 
 top_joined_one : (supers : List (Option ℕ)) (t : FlowType) → joined supers Unusable t ≡ Unusable
 top_joined_one supers Unusable = refl
@@ -163,7 +152,7 @@ fit_first_top supers zero m xs h = refl
 fit_first_top supers (suc n) zero [] h = refl
 fit_first_top supers (suc n) zero (x ∷ xs) h = absurd (omega arith)
 fit_first_top supers (suc n) (suc m) [] h = absurd (omega arith)
-fit_first_top supers (suc n) (suc m) (x ∷ xs) h = rw (fits_unusable supers x) (fit_first_top supers n m xs (omega arith))
+fit_first_top supers (suc n) (suc m) (x ∷ xs) h = rw (top supers x) (fit_first_top supers n m xs (omega arith))
 
 pub top_fits_first : (supers : List (Option ℕ)) (n m : ℕ) (xs : List FlowType) → m ≡ length xs → types_fit supers (take n (replicate m Unusable)) (take n xs) ≡ all_unusable (take n xs)
 top_fits_first supers zero m xs h = refl
@@ -434,16 +423,19 @@ none_fit : (supers : List (Option ℕ)) (ps : List ℕ) → places_fit supers []
 none_fit supers [] = refl
 none_fit supers (p ∷ ps) = none_fit supers ps
 
+unusable_is : (t : FlowType) → is_unusable t ≡ true → t ≡ Unusable
+unusable_is Unusable h = refl
+unusable_is Int h = absurd cc
+unusable_is Long h = absurd cc
+unusable_is High h = absurd cc
+unusable_is Null h = absurd cc
+unusable_is (Class c) h = absurd cc
+unusable_is (Array d e) h = absurd cc
+unusable_is (Fresh a) h = absurd cc
+unusable_is FreshThis h = absurd cc
+
 fits_if_unusable : (supers : List (Option ℕ)) (t u : FlowType) → is_unusable u ≡ true → type_fits supers t u ≡ true
-fits_if_unusable supers t Unusable h = fits_unusable supers t
-fits_if_unusable supers t Int h = absurd cc
-fits_if_unusable supers t Long h = absurd cc
-fits_if_unusable supers t High h = absurd cc
-fits_if_unusable supers t Null h = absurd cc
-fits_if_unusable supers t (Class c) h = absurd cc
-fits_if_unusable supers t (Array d e) h = absurd cc
-fits_if_unusable supers t (Fresh a) h = absurd cc
-fits_if_unusable supers t FreshThis h = absurd cc
+fits_if_unusable supers t u h = rw (unusable_is u h) (top supers t)
 
 -- types fit where they fit at the places of the second list that are in use
 pub used_fit : (supers : List (Option ℕ)) (n : ℕ) (low high : List FlowType) → length low ≡ length high → places_fit supers (take n low) (take n high) (used_from 0 high) ≡ types_fit supers (take n low) (take n high)
@@ -525,17 +517,6 @@ lacks_moved : (t x : FlowType) (ts xs : List FlowType) (first : ℕ) → LacksAt
 lacks_moved t x ts [] first h = tt
 lacks_moved t x ts (y ∷ ys) first h =
     elim (cases_Bool (is_unusable y)) [ inl q ↦ rw q (lacks_moved t x ts ys (suc first) (rw q at h)) | inr q ↦ (let k : LacksAt t (x ∷ ts) (suc first ∷ used_from (suc (suc first)) ys) = rw q at h in rw q (k.0, lacks_moved t x ts ys (suc first) k.1)) ]
-
-unusable_is : (t : FlowType) → is_unusable t ≡ true → t ≡ Unusable
-unusable_is Unusable h = refl
-unusable_is Int h = absurd cc
-unusable_is Long h = absurd cc
-unusable_is High h = absurd cc
-unusable_is Null h = absurd cc
-unusable_is (Class c) h = absurd cc
-unusable_is (Array d e) h = absurd cc
-unusable_is (Fresh a) h = absurd cc
-unusable_is FreshThis h = absurd cc
 
 -- where a type that isn't Unusable stands at no place in use, replacing it changes nothing
 pub lacks_kept : (was now : FlowType) (xs : List FlowType) → (was ≡ Unusable → ⊥) → LacksAt was xs (used_from 0 xs) → AreReplaced was now xs xs

@@ -23,6 +23,6 @@ item_class k f i = class_of k (class_text f.pool i)
 
 -- the members that items lead to, and the numbers of the classes and literals that texts name
 pub record AreTold (k : Known) (f : ClassFile) (told : Told) : Type 0 where
-  pub found : AreItems k.all f.pool told.found
+  pub found : AreItems k.all f.pool told.found.now
   pub classes : AreOf (class_number k.all k.arrays) f.pool told.classes
   pub literals : AreOf (literal_number k.literals) f.pool told.literals

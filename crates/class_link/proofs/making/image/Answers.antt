@@ -5,6 +5,8 @@ use Rattle.class_format.specs.declared.class.ClassFile.{ClassFile}
 use Rattle.class_names.specs.Classes.{codes_of}
 use Rattle.link_arrays.specs.Arrays.{array_types}
 use Rattle.link_arrays.specs.Literals.{literals}
+use Rattle.link_uses.specs.Items.{HaveItems}
+use Rattle.link_uses.proofs.ItemLaws.{items_joined}
 use Rattle.link_image.specs.Image.{image_of}
 use Rattle.link_image.specs.Parts.{AreSmall, Fit}
 use Rattle.link_image.proofs.IsImageLaw.{ok_as}
@@ -23,6 +25,13 @@ build-requires-clause-fit c =
     let one = subst (λ z. Fit z (array_types files) (literals files) c.args.start) (sym c.requires.program) fit in
     let two = subst (λ z. Fit c.args.resolver.now z (literals files) c.args.start) (sym c.requires.arrays) one in
     subst (λ z. Fit c.args.resolver.now c.args.arrays.now z c.args.start) (sym c.in_ok-literals.ensures) two
+
+pub build-requires-clause-items : goal.build-requires-clause-items
+build-requires-clause-items c =
+    let all : List ClassFile = c.args.resolver.now in
+    let files : List ClassFile = c.args.files.now in
+    let program : c.args.boot.now ++ files ≡ all = ap (λ z. z ++ files) c.requires.boot ∙ sym c.requires.program in
+    subst (λ z. HaveItems all z (c.in_ok-boot_items.boot_items ++ c.args.items)) program (items_joined all c.args.boot.now files c.in_ok-boot_items.boot_items c.args.items c.in_ok-boot_items.ensures c.requires.items)
 
 pub build-requires-clause-codes : goal.build-requires-clause-codes
 build-requires-clause-codes c =

@@ -1,7 +1,7 @@
 use Rattle.std.proofs.Common.{◌∙◌, sym}
 use Rattle.flow_types.specs.Tree.{superclasses}
 use Rattle.flow_types.proofs.FrameLaws.{fits-clash}
-use Rattle.flow_verifier.specs.Catching.{without_operands}
+use Rattle.flow_verifier.specs.Worklist.Catching.{without_operands}
 use Rattle.flow_verifier.proofs.catches.raised.Goals as goal
 
 pub returns-then-is_clash : goal.returns-then-is_clash

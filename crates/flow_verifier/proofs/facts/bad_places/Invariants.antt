@@ -3,7 +3,7 @@ use Rattle.std.specs.Prelude.{◌||◌}
 use Rattle.std.specs.List.{list_any}
 use Rattle.flow_verifier.specs.Methods.{ops_of}
 use Rattle.flow_verifier.specs.Given.{is_bad_at}
-use Rattle.flow_verifier.specs.Ranges.{flag_at}
+use Rattle.flow_verifier.specs.Worklist.Ranges.{flag_at}
 use Rattle.flow_verifier.proofs.facts.bad_places.Given as goal
 
 abbrev pub invariant-loop-k : goal.invariant-loop-k

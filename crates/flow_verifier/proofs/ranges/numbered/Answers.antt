@@ -1,5 +1,5 @@
 use Rattle.std.proofs.Common.{◌≡◌, ◌∙◌, sym, ap, refl, ◌≤◌, ◌+◌, true, false, add-one, arith}
-use Rattle.flow_verifier.specs.Ranges.{flags_to}
+use Rattle.flow_verifier.specs.Worklist.Ranges.{flags_to}
 use Rattle.flow_verifier.proofs.RangeLaws.{flag_is, flag_counts, none_counts, few_flags, no_numbers, next_number, all_numbered}
 use Rattle.flow_verifier.proofs.ranges.numbered.Goals as goal
 use Rattle.flow_verifier.proofs.ranges.numbered.Goals.{then-flags-i, else-flags-i}

@@ -1,5 +1,5 @@
 use Rattle.std.proofs.Common.{◌≡◌}
-use Rattle.flow_verifier.specs.Ranges.{flags_to}
+use Rattle.flow_verifier.specs.Worklist.Ranges.{flags_to}
 use Rattle.flow_verifier.proofs.RangeLaws.{AreFirst}
 use Rattle.flow_verifier.proofs.ranges.numbered.Given as goal
 

@@ -2,7 +2,7 @@ use Rattle.std.proofs.Common.{◌≡◌, ℕ, ◌<◌, drop, length}
 use Rattle.std.specs.Prelude.{◌||◌}
 use Rattle.std.specs.List.{list_any}
 use Rattle.flow_verifier.specs.Methods.{ops_of}
-use Rattle.flow_verifier.specs.Ranges.{flag_at, turns_at}
+use Rattle.flow_verifier.specs.Worklist.Ranges.{flag_at, turns_at}
 use Rattle.flow_verifier.proofs.ranges.turns.Given as goal
 
 abbrev pub invariant-loop-k : goal.invariant-loop-k

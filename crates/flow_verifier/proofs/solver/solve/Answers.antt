@@ -1,10 +1,10 @@
 use Rattle.std.proofs.Common.{sym, subst, ℕ, ◌≤◌, List, [], ◌∷◌, ◌++◌, Option, arith}
 use Rattle.flow_types.specs.declared.flow_frame.FlowFrame.{FlowFrame}
 use Rattle.flow_verifier.specs.declared.catches.Catches.{Catches}
-use Rattle.flow_verifier.specs.Catching.{IsCatching}
+use Rattle.flow_verifier.specs.Worklist.Catching.{IsCatching}
 use Rattle.flow_verifier.specs.Typing.{IsLeast, most_steps}
-use Rattle.flow_verifier.specs.Going.{IsGoing}
-use Rattle.flow_verifier.specs.Potential.{steps_left}
+use Rattle.flow_verifier.specs.Worklist.Going.{IsGoing}
+use Rattle.flow_verifier.specs.Worklist.Potential.{steps_left}
 use Rattle.flow_verifier.proofs.Worklist.{going-end}
 use Rattle.flow_verifier.proofs.Throwing.{none_caught}
 use Rattle.flow_verifier.proofs.Turns.{start-going, start-steps, visit-falls, visit-steps, cut-steps}

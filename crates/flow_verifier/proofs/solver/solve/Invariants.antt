@@ -1,8 +1,8 @@
 use Rattle.std.proofs.Common.{◌+◌, ◌≤◌}
 use Rattle.flow_verifier.specs.Typing.{most_steps}
-use Rattle.flow_verifier.specs.Catching.{IsCatching}
-use Rattle.flow_verifier.specs.Going.{IsMarked, IsGoing}
-use Rattle.flow_verifier.specs.Potential.{steps_left, turns_left}
+use Rattle.flow_verifier.specs.Worklist.Catching.{IsCatching}
+use Rattle.flow_verifier.specs.Worklist.Going.{IsMarked, IsGoing}
+use Rattle.flow_verifier.specs.Worklist.Potential.{steps_left, turns_left}
 use Rattle.flow_verifier.proofs.solver.solve.Given as goal
 
 abbrev pub invariant-loop-at : goal.invariant-loop-at

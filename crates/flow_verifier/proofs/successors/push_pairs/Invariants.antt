@@ -1,6 +1,6 @@
 use Rattle.std.proofs.Common.{◌≡◌, ◌++◌, drop}
 use Rattle.std.specs.Prelude.{map}
-use Rattle.flow_verifier.specs.Leading.{jump_places}
+use Rattle.flow_verifier.specs.Worklist.Leading.{jump_places}
 use Rattle.flow_verifier.proofs.successors.push_pairs.Given as goal
 
 abbrev pub invariant-loop-k : goal.invariant-loop-k

@@ -1,5 +1,5 @@
 use Rattle.std.proofs.Common.{◌≡◌, ◌++◌, drop}
-use Rattle.flow_verifier.specs.Leading.{jump_places}
+use Rattle.flow_verifier.specs.Worklist.Leading.{jump_places}
 use Rattle.flow_verifier.proofs.successors.push_targets.Given as goal
 
 abbrev pub invariant-loop-k : goal.invariant-loop-k

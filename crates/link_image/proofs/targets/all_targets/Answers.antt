@@ -1,4 +1,4 @@
-use Rattle.std.proofs.Common.{◌≡◌, ℕ, ◌+◌, ◌++◌, ◌<◌, List, Option, Some, length, slice_get, get_or, drop, map, ap, sym, ◌∙◌, arith}
+use Rattle.std.proofs.Common.{◌≡◌, ℕ, ◌+◌, ◌++◌, ◌<◌, List, Option, Some, length, slice_get, get_or, drop, map, ap, sym, ◌∙◌, subst, arith}
 use Rattle.std.specs.Prelude.{option_map}
 use Rattle.std.proofs.lemmas.List.{length-map}
 use Rattle.std.proofs.lemmas.Option.{get_or_from_slice_get, slice_get-map}
@@ -6,6 +6,8 @@ use Rattle.class_format.specs.declared.class.ClassFile.{ClassFile}
 use Rattle.class_names.specs.Classes.{codes_of}
 use Rattle.code_table.specs.declared.code.Code.{Code}
 use Rattle.link_rules.specs.Numbers.{numbered}
+use Rattle.link_uses.specs.Items.{AreItems}
+use Rattle.link_uses.proofs.ItemLaws.{items_at}
 use Rattle.program_image.specs.Places.{Placing}
 use Rattle.link_image.specs.Methods.{first_method}
 use Rattle.link_image.specs.Seen.{seen_lookup}
@@ -36,10 +38,20 @@ loop-c-preserved-in_default c =
     let no : ⊥ = not_past all c.loop-c.c inside (c.in_default.ensures ∙ ap (λ z. slice_get z c.loop-c.c) c.program-program.ensures) in
     absurd no
 
+pub add_class-requires-clause-found : goal.add_class-requires-clause-found
+add_class-requires-clause-found c =
+    let all : List ClassFile = c.args.lookup.now.resolver.now in
+    let f : ClassFile = c.in-Some.file.now in
+    let e : slice_get all c.loop-c.c ≡ Some f = sym (c.in-Some.ensures ∙ ap (λ z. slice_get z c.loop-c.c) c.program-program.ensures) in
+    let n : length c.args.codes.now ≡ length all = ap length c.requires.codes ∙ length-map all codes_of in
+    let inside : c.loop-c.c < length all = omega arith in
+    let own : AreItems all f.pool c.index-items-c.result = items_at all all c.args.items.now c.loop-c.c f c.index-items-c.result c.requires.items inside (sym (get_or_from_slice_get all c.loop-c.c f f e)) c.index-items-c.is in
+    subst (AreItems all f.pool) (sym c.as_slice-found.ensures) own
+
 pub add_class-requires-clause-codes : goal.add_class-requires-clause-codes
 add_class-requires-clause-codes c =
     let e : slice_get c.args.lookup.now.resolver.now c.loop-c.c ≡ Some c.in-Some.file.now = sym (c.in-Some.ensures ∙ ap (λ z. slice_get z c.loop-c.c) c.program-program.ensures) in
-    codes_at c.args.lookup.now.resolver.now c.args.codes.now c.loop-c.c c.in-Some.file.now c.index-codes-c.result c.as_slice.result.now c.requires.codes e c.index-codes-c.is c.as_slice.ensures
+    codes_at c.args.lookup.now.resolver.now c.args.codes.now c.loop-c.c c.in-Some.file.now c.index-codes-c.result c.as_slice-code.result.now c.requires.codes e c.index-codes-c.is c.as_slice-code.ensures
 
 pub add_class-requires-clause-short : goal.add_class-requires-clause-short
 add_class-requires-clause-short c =

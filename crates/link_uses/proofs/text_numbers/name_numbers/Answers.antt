@@ -1,5 +1,5 @@
 use Rattle.std.proofs.Common.{ap, ◌∙◌}
-use Rattle.link_uses.specs.Owned.{name_number}
+use Rattle.link_members.specs.Signs.{name_number}
 use Rattle.link_uses.proofs.TextLaws.{of_more}
 use Rattle.link_uses.proofs.text_numbers.name_numbers.Goals as goal
 

@@ -1,4 +1,4 @@
-use Rattle.link_uses.specs.Owned.{name_number}
+use Rattle.link_members.specs.Signs.{name_number}
 use Rattle.link_uses.proofs.TextLaws.{of_there}
 use Rattle.link_uses.proofs.text_numbers.number_at.Goals as goal
 

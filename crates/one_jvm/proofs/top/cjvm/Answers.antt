@@ -2,7 +2,7 @@ use Rattle.std.proofs.Common.{◌∙◌}
 use Rattle.cjvm_io.specs.Sinks.{shown}
 use Rattle.one_jvm.specs.Words.{texts}
 use Rattle.one_jvm.specs.Answers.{the_faults}
-use Rattle.one_jvm.proofs.Statuses.{unrefused, usage, refused, no_file, too_long, bad_order, early, ended, read_fault, any_write_fault, hides, end_is, speaks_none, is_status, not_run, check_quiet, unreported, quiet, done, run_status, replayed}
+use Rattle.one_jvm.proofs.Statuses.{unrefused, usage, refused, no_file, too_long, bad_order, early, ended, read_fault, any_write_fault, hides, end_is, speaks_none, is_status, not_run, checked, check_quiet, unreported, quiet, done, run_status, replayed}
 use Rattle.one_jvm.proofs.Judged.{subject, ran_answered, unwritten_answered}
 use Rattle.one_jvm.proofs.top.cjvm.Goals as goal
 
@@ -44,6 +44,10 @@ returns-clause-quiet g c = quiet (record { one = c.verdict_is_one.ensures.one; e
 
 pub returns-clause-done : goal.returns-clause-done
 returns-clause-done g c = done (record { one = c.verdict_is_one.ensures.one; end = c.verdict_is_one.ensures.end }) (texts c.args.words.now) (g.S.Shelf.files c.args.shelf.now) (the_faults (g.S.Shelf.faults c.args.shelf.now) (g.S.Shelf.faults c.judge-verdict.new.shelf) (g.O.Sink.faults c.args.out.now) (g.O.Sink.faults c.judge-verdict.new.out)) (shown g.O.Sink.held g.O.Sink.faults c.args.out.now) (shown g.O.Sink.held g.O.Sink.faults c.judge-verdict.new.out) c.judge-verdict.result.order c.judge-verdict.result.stop c.judge-verdict.result.end c.judge-verdict.result.refusal c.close-refusal.result c.judge-verdict.result.text.items c.judge-verdict.result.listing c.judge-verdict.result.name.now c.subject_of-subject.result.now c.outcome_status.result c.judge-verdict.ensures.judged (speaks_none (texts c.args.words.now) c.judge-verdict.result.refusal c.judge-verdict.result.text.items c.subject_of-subject.result.now (rw c.as_slice.ensures.value at (c.subject_of-subject.ensures (texts c.args.words.now) c.judge-verdict.ensures.judged.named))) (λ p s l. (c.close-refusal.ensures.silent p s (c.as_slice-2.ensures ∙ l)).1) c.outcome_status.ensures (hides _ c.judge-verdict.result.refusal _ _ c.close-refusal.result c.close-refusal.ensures.closed)
+
+pub returns-clause-checked : goal.returns-clause-checked
+returns-clause-checked g c k =
+    checked (texts c.args.words.now) (g.S.Shelf.files c.args.shelf.now) c.judge-verdict.result.stop c.close-refusal.result c.outcome_status.result k (returns-clause-status g c) (returns-clause-not_run g c) (returns-clause-ended g c)
 
 pub returns-clause-run_status : goal.returns-clause-run_status
 returns-clause-run_status g c = run_status (record { one = c.verdict_is_one.ensures.one; end = c.verdict_is_one.ensures.end }) (texts c.args.words.now) (g.S.Shelf.files c.args.shelf.now) (the_faults (g.S.Shelf.faults c.args.shelf.now) (g.S.Shelf.faults c.judge-verdict.new.shelf) (g.O.Sink.faults c.args.out.now) (g.O.Sink.faults c.judge-verdict.new.out)) (shown g.O.Sink.held g.O.Sink.faults c.args.out.now) (shown g.O.Sink.held g.O.Sink.faults c.judge-verdict.new.out) c.judge-verdict.result.order c.judge-verdict.result.stop c.judge-verdict.result.end c.judge-verdict.result.refusal c.close-refusal.result c.judge-verdict.result.text.items c.judge-verdict.result.listing c.judge-verdict.result.name.now c.subject_of-subject.result.now c.outcome_status.result c.judge-verdict.ensures.judged (speaks_none (texts c.args.words.now) c.judge-verdict.result.refusal c.judge-verdict.result.text.items c.subject_of-subject.result.now (rw c.as_slice.ensures.value at (c.subject_of-subject.ensures (texts c.args.words.now) c.judge-verdict.ensures.judged.named))) (λ p s l. (c.close-refusal.ensures.silent p s (c.as_slice-2.ensures ∙ l)).1) c.outcome_status.ensures (hides _ c.judge-verdict.result.refusal _ _ c.close-refusal.result c.close-refusal.ensures.closed)

@@ -1,4 +1,4 @@
-use Rattle.shared_state.proofs.OnErrs.{on_ok_more}
+use Rattle.machine_state.proofs.Results.{on_ok_more}
 use Rattle.shared_state.proofs.MakingLaws.{made_here}
 use Rattle.shared_state.proofs.made.make_at.Goals as goal
 

@@ -1,9 +1,9 @@
 use Rattle.std.proofs.Common.{◌≡◌, ◌∙◌, subst, ◌<◌, length}
 use Rattle.std.proofs.lemmas.Option.{slice_get_within}
 use Rattle.flow_verifier.specs.Methods.{ops_of}
-use Rattle.flow_verifier.specs.Leading.{ways_caught}
-use Rattle.flow_verifier.specs.Catching.{IsCatching}
-use Rattle.flow_verifier.specs.Going.{IsTakenOff}
+use Rattle.flow_verifier.specs.Worklist.Leading.{ways_caught}
+use Rattle.flow_verifier.specs.Worklist.Catching.{IsCatching}
+use Rattle.flow_verifier.specs.Worklist.Going.{IsTakenOff}
 use Rattle.flow_verifier.proofs.Throwing.{with_caught, kept_range, kept_catches, throw_end, throw_keep}
 use Rattle.flow_verifier.proofs.rising.Rising.catch.Goals as goal
 

@@ -5,11 +5,11 @@ use Rattle.flow_types.specs.Tree.{superclasses}
 use Rattle.flow_verifier.specs.declared.method.Handler.{Handler}
 use Rattle.flow_verifier.specs.Methods.{ops_of}
 use Rattle.flow_verifier.specs.Given.{covers}
-use Rattle.flow_verifier.specs.Flowing.{IsMore}
-use Rattle.flow_verifier.specs.Ranges.{range_at}
-use Rattle.flow_verifier.specs.HandlerTrees.{handlers_in}
+use Rattle.flow_verifier.specs.Worklist.Flowing.{IsMore}
+use Rattle.flow_verifier.specs.Worklist.Ranges.{range_at}
+use Rattle.flow_verifier.specs.Worklist.HandlerTrees.{handlers_in}
 use Rattle.flow_verifier.specs.Typing.{frame_at, FitsPlace}
-use Rattle.flow_verifier.specs.Catching.{without_operands}
+use Rattle.flow_verifier.specs.Worklist.Catching.{without_operands}
 use Rattle.flow_verifier.proofs.HandlerLaws.{covering}
 use Rattle.flow_verifier.proofs.RangeLaws.{there}
 use Rattle.flow_verifier.proofs.Throwing.{no_frame, nothing_off, placed_at, bare_alike, taken_off, throw_start}

@@ -1,6 +1,6 @@
 use Rattle.std.proofs.Common.{ℕ, ◌+◌, ◌≤◌}
-use Rattle.flow_verifier.specs.Going.{IsVisiting}
-use Rattle.flow_verifier.specs.Potential.{potential}
+use Rattle.flow_verifier.specs.Worklist.Going.{IsVisiting}
+use Rattle.flow_verifier.specs.Worklist.Potential.{potential}
 use Rattle.flow_verifier.proofs.rising.Rising.go_on.Given as goal
 
 abbrev pub invariant-loop-k : goal.invariant-loop-k

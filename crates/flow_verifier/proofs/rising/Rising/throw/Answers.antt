@@ -1,7 +1,7 @@
 use Rattle.std.proofs.Common.{◌≡◌, slice_get, Some}
 use Rattle.std.specs.Prelude.{get_or}
 use Rattle.flow_verifier.specs.declared.method.Handler.{Handler}
-use Rattle.flow_verifier.specs.Going.{IsPut}
+use Rattle.flow_verifier.specs.Worklist.Going.{IsPut}
 use Rattle.flow_verifier.proofs.Ways.{on_ok}
 use Rattle.flow_verifier.proofs.Visits.{on_both}
 use Rattle.flow_verifier.proofs.Throwing.{no_handler, handler_at, throw_target, throw_alike, throw_step, throw_falls}

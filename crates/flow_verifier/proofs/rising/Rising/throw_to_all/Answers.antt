@@ -1,5 +1,5 @@
 use Rattle.std.proofs.Common.{◌≡◌, ◌∙◌, ap, subst, length, arith}
-use Rattle.flow_verifier.specs.Going.{IsThrowing}
+use Rattle.flow_verifier.specs.Worklist.Going.{IsThrowing}
 use Rattle.flow_verifier.proofs.rising.Rising.throw_to_all.Goals as goal
 
 pub throw-requires-clause-handler : goal.throw-requires-clause-handler

@@ -1,6 +1,6 @@
 use Rattle.std.proofs.Common.{◌≡◌, ℕ, ◌+◌, ◌≤◌}
-use Rattle.flow_verifier.specs.Going.{IsThrowing}
-use Rattle.flow_verifier.specs.Potential.{potential}
+use Rattle.flow_verifier.specs.Worklist.Going.{IsThrowing}
+use Rattle.flow_verifier.specs.Worklist.Potential.{potential}
 use Rattle.flow_verifier.proofs.rising.Rising.throw_to_all.Given as goal
 
 abbrev pub invariant-loop-k : goal.invariant-loop-k

@@ -1,5 +1,5 @@
 use Rattle.std.proofs.Common.{sym}
-use Rattle.flow_verifier.specs.Leading.{ways_caught}
+use Rattle.flow_verifier.specs.Worklist.Leading.{ways_caught}
 use Rattle.flow_verifier.proofs.Worklist.{skip}
 use Rattle.flow_verifier.proofs.Visits.{visit-start}
 use Rattle.flow_verifier.proofs.rising.Rising.visit_of.Goals as goal

@@ -1,5 +1,5 @@
 -- A step leads on; where none is taken the replay stays as it is.
-use Rattle.std.proofs.Common.{◌∙◌, refl, ap, subst}
+use Rattle.std.proofs.Common.{◌∙◌, ap, subst}
 use Rattle.machine_state.specs.Step.{step}
 use Rattle.one_machine.specs.Ready.{Machine}
 use Rattle.order_replay.specs.Replaying.{Replay, TakesOn}
@@ -8,11 +8,13 @@ use Rattle.order_replay.proofs.replay.Replay.step.Goals as goal
 
 pub returns-in_err-ending_of-clause-later : goal.returns-in_err-ending_of-clause-later
 returns-in_err-ending_of-clause-later c =
-    takes_none c.args.image.now c.args.order.now _ _ refl refl c.requires.few
+    takes_none c.args.image.now c.args.order.now _ _ (ap (λ (a : Replay). a.machine.state) c.self.view_is)
+    (ap (λ (a : Replay). a.taken) c.self.view_is) c.requires.few
 
 pub returns-in_default-clause-later : goal.returns-in_default-clause-later
 returns-in_default-clause-later c =
-    takes_none c.args.image.now c.args.order.now _ _ refl refl c.requires.few
+    takes_none c.args.image.now c.args.order.now _ _ (ap (λ (a : Replay). a.machine.state) c.self.view_is)
+    (ap (λ (a : Replay). a.taken) c.self.view_is) c.requires.few
 
 pub returns-in-Ok-clause-later : goal.returns-in-Ok-clause-later
 returns-in-Ok-clause-later c =

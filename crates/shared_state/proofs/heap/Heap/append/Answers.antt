@@ -6,7 +6,7 @@ use Rattle.machine_state.specs.State.{body_at}
 use Rattle.machine_state.specs.Changes.{with_content}
 use Rattle.machine_state.specs.Serving.{content_of}
 use Rattle.shared_state.specs.Stored.{stored_body}
-use Rattle.shared_state.proofs.OnErrs.{on_ok_more, on_err_more}
+use Rattle.machine_state.proofs.Results.{on_ok_more, on_err_more}
 use Rattle.shared_state.proofs.StoredLaws.{altered_there, absent_there, body_there, same_there}
 use Rattle.shared_state.proofs.heap.Heap.append.Goals as goal
 use Rattle.shared_state.proofs.heap.Heap.append.Goals.{in-Some, in-None}
